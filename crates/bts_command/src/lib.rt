@@ -1,0 +1,8 @@
+//! Commands, the calls that units of work made of them, and units of work that have ended.
+#![tactic(auto)]
+
+mod command;
+mod ended;
+
+pub use command::{Call, Calls, Command, Commands, Spot, Target};
+pub use ended::{End, Ended, History, UnitKind};

@@ -1,0 +1,6 @@
+pub mod Answer
+pub mod Grammar
+pub mod Named
+pub mod Names
+pub mod Padded
+pub mod Vocabulary

@@ -1,0 +1,22 @@
+//! Names, paths, moments and replies: the small values that every layer speaks of.
+#![tactic(auto)]
+
+mod key;
+mod memory;
+mod moment;
+mod name;
+mod path;
+mod reply;
+mod row;
+mod sequence;
+mod state;
+
+pub use key::Key;
+pub use memory::NoMemory;
+pub use moment::Moment;
+pub use name::{Abcode, BadName, Name, Name16, ProcName, ProcType, ProgName, Transid, kind};
+pub use path::Path;
+pub use reply::{Leaving, Reason, Reply, Resp, Value};
+pub use row::{Row, Rows};
+pub use sequence::{Blob, Sequence};
+pub use state::{EventKind, Mode, Status, TimerStatus};
