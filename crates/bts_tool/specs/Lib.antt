@@ -1,0 +1,10 @@
+pub mod Causes
+pub mod Containers
+pub mod Puts
+pub mod Reading
+pub mod Report
+pub mod ReportWords
+pub mod RequestText
+pub mod Rows
+pub mod Unit
+pub mod Words

@@ -1,0 +1,107 @@
+-- How commands, replies, rows and units are written, as lists of words.
+use Rattle.std.specs.Prelude.{ℕ, Bool, true, false, if◌then◌else◌, ◌+◌, ◌/◌, ◌%◌, nat_lt, List, [], ◌∷◌, ◌++◌, codes, Option, Some, None}
+use Rattle.std.specs.List.{flat_map}
+use Rattle.std.specs.Fmt.{decimal}
+use Rattle.bts_names.specs.Names.{Bytes, Name, ActivityPath}
+use Rattle.bts_names.specs.Vocabulary.{reason_word, mode_word, status_word, kind_word, timer_word}
+use Rattle.bts_names.specs.declared.reply.Reason.{Reason}
+use Rattle.bts_names.specs.declared.reply.Reason.TheVariants as reason
+use Rattle.bts_names.specs.declared.reply.Value.{Value}
+use Rattle.bts_names.specs.declared.reply.Value.TheVariants as value
+use Rattle.bts_names.specs.declared.reply.Leaving.{Leaving}
+use Rattle.bts_names.specs.declared.reply.Leaving.TheVariants as leaving
+use Rattle.bts_names.specs.declared.row.Row.{Row}
+use Rattle.bts_command.specs.declared.command.Command.{Command}
+use Rattle.bts_command.specs.declared.command.Command.TheVariants as command
+use Rattle.bts_command.specs.declared.ended.End.{End}
+use Rattle.bts_command.specs.declared.ended.End.TheVariants.{Commit, Rollback, Abend}
+use Rattle.bts_command.specs.declared.ended.UnitKind.{UnitKind}
+use Rattle.bts_command.specs.declared.ended.UnitKind.TheVariants as unit
+
+-- a word with an argument
+abbrev pub with_argument : Bytes → Bytes → Bytes
+with_argument word argument = word ++ codes "(" ++ argument ++ codes ")"
+
+-- `/`, `/1`, `/1/2`
+abbrev pub path_text : ActivityPath → Bytes
+path_text [] = codes "/"
+path_text (n ∷ p) = flat_map (λ x. 47 ∷ decimal x) (n ∷ p)
+
+-- X'..' with capital hexadecimal pairs
+abbrev pub hex_digit : ℕ → ℕ
+hex_digit n = if nat_lt n 10 then 48 + n else 55 + n
+
+abbrev pub hex_pair : ℕ → Bytes
+hex_pair b = hex_digit (b / 16) ∷ hex_digit (b % 16) ∷ []
+
+abbrev pub bytes_text : Bytes → Bytes
+bytes_text bytes = codes "X'" ++ flat_map hex_pair bytes ++ codes "'"
+
+abbrev pub suspended_word : Bool → Bytes
+suspended_word true = codes "SUSPENDED"
+suspended_word false = codes "NOTSUSPENDED"
+
+abbrev pub code_word : Option Name → Bytes
+code_word None = codes "-"
+code_word (Some c) = c
+
+abbrev pub leaving_words : Leaving → List Bytes
+leaving_words leaving.Dormant = codes "DORMANT" ∷ []
+leaving_words leaving.Complete = codes "COMPLETE" ∷ []
+leaving_words (leaving.Abended c) = codes "ABEND" ∷ c ∷ []
+
+abbrev pub value_words : Value → List Bytes
+value_words value.Nothing = []
+value_words (value.Bytes bytes) = bytes_text bytes ∷ []
+value_words (value.Id p) = path_text p ∷ []
+value_words (value.Event n k) = n ∷ kind_word k ∷ []
+value_words (value.Fired true) = codes "FIRED" ∷ []
+value_words (value.Fired false) = codes "NOTFIRED" ∷ []
+value_words (value.Activity m s b c) = mode_word m ∷ status_word s ∷ suspended_word b ∷ code_word c ∷ []
+value_words (value.Timer t) = timer_word t ∷ []
+value_words (value.Ran true) = codes "RAN" ∷ []
+value_words (value.Ran false) = codes "WAITS" ∷ []
+value_words (value.Left l) = leaving_words l
+
+abbrev pub reason_words : Reason → List Bytes
+reason_words reason.None = []
+reason_words why = reason_word why ∷ []
+
+abbrev pub command_words : Command → List Bytes
+command_words (command.DefineProcess t p) = codes "DEFINE" ∷ codes "PROCESS" ∷ []
+command_words (command.PutContainer c s d) = codes "PUT" ∷ with_argument (codes "CONTAINER") c ∷ []
+command_words (command.GetContainer c s) = codes "GET" ∷ with_argument (codes "CONTAINER") c ∷ []
+command_words (command.Return false) = codes "RETURN" ∷ []
+command_words (command.Return true) = codes "RETURN" ∷ codes "ENDACTIVITY" ∷ []
+
+abbrev pub end_words : End → List Bytes
+end_words Commit = codes "COMMIT" ∷ []
+end_words Rollback = codes "ROLLBACK" ∷ []
+end_words (Abend c) = codes "ABEND" ∷ c ∷ []
+
+-- a unit's kind, and what it is of
+abbrev pub unit_word : UnitKind → Bytes
+unit_word (unit.Request n k) = codes "REQUEST"
+unit_word (unit.Activation k p) = codes "ACTIVATION"
+unit_word (unit.Notice k p) = codes "NOTICE"
+unit_word (unit.Expiry k p t) = codes "EXPIRY"
+unit_word (unit.Clock n) = codes "CLOCK"
+unit_word (unit.Settle n) = codes "SETTLE"
+unit_word (unit.Browse n) = codes "BROWSE"
+
+abbrev pub unit_arguments : UnitKind → List Bytes
+unit_arguments (unit.Request n k) = k.ptype ∷ k.pname ∷ []
+unit_arguments (unit.Activation k p) = k.ptype ∷ k.pname ∷ path_text p ∷ []
+unit_arguments (unit.Notice k p) = k.ptype ∷ k.pname ∷ path_text p ∷ []
+unit_arguments (unit.Expiry k p t) = k.ptype ∷ k.pname ∷ path_text p ∷ t ∷ []
+unit_arguments (unit.Clock n) = []
+unit_arguments (unit.Settle n) = []
+unit_arguments (unit.Browse n) = []
+
+-- where the activity of a row stands, and what it is
+abbrev pub row_place : Row → List Bytes
+row_place r = r.key.ptype ∷ r.key.pname ∷ decimal r.generation ∷ path_text r.path ∷ r.name ∷ []
+
+abbrev pub row_state : Row → List Bytes
+row_state r =
+    mode_word r.mode ∷ status_word r.status ∷ suspended_word r.suspended ∷ decimal r.queued ∷ r.transid ∷ r.program ∷ []

@@ -1,0 +1,51 @@
+//! `bts run FILE`: does the request that standard input holds, and reports it on standard output.
+#![tactic(auto)]
+
+mod cause;
+mod containers;
+mod lines;
+mod process;
+mod report;
+mod report_words;
+mod request;
+mod streams;
+mod text;
+mod top_call;
+mod unit;
+mod words;
+
+use bts_names::NoMemory;
+use cause::Cause;
+use std::alloc::Global;
+use std::env;
+use std::io::ErrorKind;
+use std::process::ExitCode;
+use streams::{ReaderSource, WriterSink};
+use top_call::{bts_command, tell_cause};
+
+/// The words of the command line. Where one of them is no text, or they can't be had, there are none, and
+/// no words are wrong words.
+fn words_of(rt: &HostRuntime, alloc: Global) -> Result<Vec<String>, NoMemory> {
+    let mut words = Vec::new(alloc);
+    match env::args(rt) {
+        Ok(arguments) => {
+            for word in arguments.skip(1) {
+                words.push(word)?;
+            }
+            Ok(words)
+        }
+        Err(error) if error.kind() == ErrorKind::OutOfMemory => Err(NoMemory),
+        Err(_) => Ok(words),
+    }
+}
+
+fn main(rt: HostRuntime) -> ExitCode {
+    let alloc = rt.alloc();
+    let mut source = ReaderSource::new(rt.stdin());
+    let mut sink = WriterSink::new(rt.stdout());
+    let outcome = match words_of(&rt, alloc) {
+        Ok(words) => bts_command(alloc, &words, &mut source, &mut sink),
+        Err(_) => tell_cause(&mut sink, Cause::NoMemory),
+    };
+    ExitCode::from(outcome.status)
+}
