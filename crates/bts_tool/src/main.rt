@@ -9,6 +9,8 @@ mod report;
 mod report_words;
 mod request;
 mod streams;
+#[cfg(test)]
+mod tests;
 mod text;
 mod top_call;
 mod unit;
