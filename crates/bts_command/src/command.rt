@@ -1,4 +1,7 @@
 // Commands, and the calls that are made of them.
+ghost use Rattle.std.specs.Prelude.{◌≡◌};
+ghost use Rattle.bts_command.specs.Sizes.{put_bytes};
+
 use bts_names::{Blob, Name16, ProgName, Reply, Sequence, Transid};
 
 /// Which activity a command is about.
@@ -41,6 +44,18 @@ pub enum Command {
     Return {
         end_activity: bool,
     },
+}
+
+impl Command {
+    /// The length of FROM; 0 where the command has none.
+    pub fn data_bytes(&self) -> u64
+        ensures { result ≡ put_bytes self.now }
+    {
+        match self {
+            Command::PutContainer { from, .. } => from.len() as u64,
+            _ => 0,
+        }
+    }
 }
 
 /// Commands in order.

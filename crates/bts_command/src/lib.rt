@@ -6,3 +6,6 @@ mod ended;
 
 pub use command::{Call, Calls, Command, Commands, Spot, Target};
 pub use ended::{End, Ended, History, UnitKind};
+
+#[cfg(test)]
+mod tests;

@@ -1,5 +1,6 @@
 pub mod Answer
 pub mod Grammar
+pub mod Keys
 pub mod Named
 pub mod Names
 pub mod Padded

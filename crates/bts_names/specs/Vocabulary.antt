@@ -1,5 +1,7 @@
 -- The words of replies and states, with their numbers in stored bytes.
-use Rattle.std.specs.Prelude.{ℕ, Option, Some, None, codes}
+use Rattle.std.specs.Prelude.{ℕ, List, [], ◌∷◌, Option, Some, None, codes}
+use Rattle.std.specs.List.{find, slice_get}
+use Rattle.std.specs.Str.{bytes_eq}
 use Rattle.bts_names.specs.Names.{Bytes}
 use Rattle.bts_names.specs.declared.reply.Resp.{Resp}
 use Rattle.bts_names.specs.declared.reply.Resp.TheVariants as resp
@@ -13,6 +15,14 @@ use Rattle.bts_names.specs.declared.state.EventKind.{EventKind}
 use Rattle.bts_names.specs.declared.state.EventKind.TheVariants as kind
 use Rattle.bts_names.specs.declared.state.TimerStatus.{TimerStatus}
 use Rattle.bts_names.specs.declared.state.TimerStatus.TheVariants as timer
+
+-- the value with this number, among values in the order of their numbers from 0
+abbrev pub at_number : {A : Type 0} → List A → ℕ → Option A
+at_number = slice_get
+
+-- the value with this word
+abbrev pub at_word : {A : Type 0} → (A → Bytes) → List A → Bytes → Option A
+at_word word values bytes = find (λ x. bytes_eq (word x) bytes) values
 
 abbrev pub resp_word : Resp → Bytes
 resp_word resp.Normal = codes "NORMAL"
@@ -35,6 +45,9 @@ resp_number resp.Activityerr = 5
 resp_number resp.Containererr = 6
 resp_number resp.Eventerr = 7
 resp_number resp.Timererr = 8
+
+abbrev pub resps : List Resp
+resps = resp.Normal ∷ resp.Invreq ∷ resp.Lengerr ∷ resp.End ∷ resp.Processerr ∷ resp.Activityerr ∷ resp.Containererr ∷ resp.Eventerr ∷ resp.Timererr ∷ []
 
 abbrev pub reason_word : Reason → Bytes
 reason_word reason.None = codes "None"
@@ -86,6 +99,9 @@ reason_number reason.Empty = 20
 reason_number reason.Range = 21
 reason_number reason.Ended = 22
 
+abbrev pub reasons : List Reason
+reasons = reason.None ∷ reason.Place ∷ reason.Acquired ∷ reason.NotAcquired ∷ reason.Taken ∷ reason.Missing ∷ reason.Mode ∷ reason.Started ∷ reason.InputGiven ∷ reason.InputMissing ∷ reason.Kind ∷ reason.Fired ∷ reason.Depth ∷ reason.Limit ∷ reason.ReadOnly ∷ reason.Long ∷ reason.NotAtomic ∷ reason.NotComposite ∷ reason.IsSubevent ∷ reason.NotSubevent ∷ reason.Empty ∷ reason.Range ∷ reason.Ended ∷ []
+
 abbrev pub mode_word : Mode → Bytes
 mode_word mode.Initial = codes "INITIAL"
 mode_word mode.Active = codes "ACTIVE"
@@ -99,6 +115,9 @@ mode_number mode.Active = None
 mode_number mode.Dormant = Some 1
 mode_number mode.Complete = Some 2
 
+abbrev pub stored_modes : List Mode
+stored_modes = mode.Initial ∷ mode.Dormant ∷ mode.Complete ∷ []
+
 abbrev pub status_word : Status → Bytes
 status_word status.Incomplete = codes "INCOMPLETE"
 status_word status.Normal = codes "NORMAL"
@@ -110,6 +129,9 @@ status_number status.Incomplete = 0
 status_number status.Normal = 1
 status_number status.Abend = 2
 status_number status.Forced = 3
+
+abbrev pub statuses : List Status
+statuses = status.Incomplete ∷ status.Normal ∷ status.Abend ∷ status.Forced ∷ []
 
 abbrev pub kind_word : EventKind → Bytes
 kind_word kind.System = codes "SYSTEM"
@@ -125,6 +147,9 @@ kind_number kind.Activity = 2
 kind_number kind.Timer = 3
 kind_number kind.Composite = 4
 
+abbrev pub kinds : List EventKind
+kinds = kind.System ∷ kind.Input ∷ kind.Activity ∷ kind.Timer ∷ kind.Composite ∷ []
+
 abbrev pub timer_word : TimerStatus → Bytes
 timer_word timer.Unexpired = codes "UNEXPIRED"
 timer_word timer.Expired = codes "EXPIRED"
@@ -134,3 +159,6 @@ abbrev pub timer_number : TimerStatus → ℕ
 timer_number timer.Unexpired = 0
 timer_number timer.Expired = 1
 timer_number timer.Forced = 2
+
+abbrev pub timer_statuses : List TimerStatus
+timer_statuses = timer.Unexpired ∷ timer.Expired ∷ timer.Forced ∷ []

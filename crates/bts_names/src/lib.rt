@@ -1,6 +1,7 @@
 //! Names, paths, moments and replies: the small values that every layer speaks of.
 #![tactic(auto)]
 
+mod comparisons;
 mod key;
 mod memory;
 mod moment;
@@ -11,6 +12,9 @@ mod row;
 mod sequence;
 mod state;
 
+pub use comparisons::{
+    keys_compare_by_type_and_name, names_compare_by_bytes, paths_compare_by_numbers,
+};
 pub use key::Key;
 pub use memory::NoMemory;
 pub use moment::Moment;
@@ -20,3 +24,6 @@ pub use reply::{Leaving, Reason, Reply, Resp, Value};
 pub use row::{Row, Rows};
 pub use sequence::{Blob, Sequence};
 pub use state::{EventKind, Mode, Status, TimerStatus};
+
+#[cfg(test)]
+mod tests;

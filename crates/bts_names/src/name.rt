@@ -150,6 +150,7 @@ impl<K, const MOST: usize> Name<K, MOST> {
         }
     }
 
+    /// The bytes of the name.
     pub fn as_bytes(&self) -> &[u8]
         ensures bytes { result.now ≡ self.now }
         ensures word { is_word_within MOST self.now ≡ true }

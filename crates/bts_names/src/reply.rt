@@ -1,6 +1,6 @@
 // What a command answers.
-ghost use Rattle.std.specs.Prelude.{◌≡◌};
-ghost use Rattle.bts_names.specs.Vocabulary.{resp_word, resp_number, reason_word, reason_number};
+ghost use Rattle.std.specs.Prelude.{◌≡◌, Some};
+ghost use Rattle.bts_names.specs.Vocabulary.{resp_word, resp_number, resps, reason_word, reason_number, reasons, at_number, at_word};
 
 use crate::{Abcode, Blob, EventKind, Mode, Name16, Path, Status, TimerStatus};
 
@@ -19,8 +19,23 @@ pub enum Resp {
 }
 
 impl Resp {
+    /// All in the order of their numbers.
+    const IN_ORDER: [Resp; 9] = [
+        Resp::Normal,
+        Resp::Invreq,
+        Resp::Lengerr,
+        Resp::End,
+        Resp::Processerr,
+        Resp::Activityerr,
+        Resp::Containererr,
+        Resp::Eventerr,
+        Resp::Timererr,
+    ];
+
+    /// The word that texts have.
     pub fn word(self) -> &'static str
-        ensures { result.now ≡ resp_word self }
+        ensures value { result.now ≡ resp_word self }
+        ensures read_back { at_word resp_word resps result.now ≡ Some self }
     {
         match self {
             Resp::Normal => "NORMAL",
@@ -37,7 +52,8 @@ impl Resp {
 
     /// The number in stored bytes.
     pub fn number(self) -> u8
-        ensures { result ≡ resp_number self }
+        ensures value { result ≡ resp_number self }
+        ensures place { at_number resps result ≡ Some self }
     {
         match self {
             Resp::Normal => 0,
@@ -50,6 +66,23 @@ impl Resp {
             Resp::Eventerr => 7,
             Resp::Timererr => 8,
         }
+    }
+
+    /// The one with that number; None where there is none.
+    pub fn from_number(n: u8) -> Option<Self>
+        ensures { result ≡ at_number resps n }
+    {
+        Resp::IN_ORDER.get(usize::from(n)).copied()
+    }
+
+    /// The one with that word; None where there is none.
+    pub fn from_word(bytes: &[u8]) -> Option<Self>
+        ensures { result ≡ at_word resp_word resps bytes.now }
+    {
+        Resp::IN_ORDER
+            .iter()
+            .find(|x| x.word().as_bytes() == bytes)
+            .copied()
     }
 }
 
@@ -82,6 +115,34 @@ pub enum Reason {
 }
 
 impl Reason {
+    /// All in the order of their numbers.
+    const IN_ORDER: [Reason; 23] = [
+        Reason::None,
+        Reason::Place,
+        Reason::Acquired,
+        Reason::NotAcquired,
+        Reason::Taken,
+        Reason::Missing,
+        Reason::Mode,
+        Reason::Started,
+        Reason::InputGiven,
+        Reason::InputMissing,
+        Reason::Kind,
+        Reason::Fired,
+        Reason::Depth,
+        Reason::Limit,
+        Reason::ReadOnly,
+        Reason::Long,
+        Reason::NotAtomic,
+        Reason::NotComposite,
+        Reason::IsSubevent,
+        Reason::NotSubevent,
+        Reason::Empty,
+        Reason::Range,
+        Reason::Ended,
+    ];
+
+    /// The word that texts have.
     pub fn word(self) -> &'static str
         ensures { result.now ≡ reason_word self }
     {
@@ -114,7 +175,8 @@ impl Reason {
 
     /// The number in stored bytes.
     pub fn number(self) -> u8
-        ensures { result ≡ reason_number self }
+        ensures value { result ≡ reason_number self }
+        ensures place { at_number reasons result ≡ Some self }
     {
         match self {
             Reason::None => 0,
@@ -141,6 +203,13 @@ impl Reason {
             Reason::Range => 21,
             Reason::Ended => 22,
         }
+    }
+
+    /// The one with that number; None where there is none.
+    pub fn from_number(n: u8) -> Option<Self>
+        ensures { result ≡ at_number reasons n }
+    {
+        Reason::IN_ORDER.get(usize::from(n)).copied()
     }
 }
 
