@@ -6,16 +6,17 @@ use std::test::Fail;
 #[test]
 fn commands_carry_the_bytes_that_they_put(rt: HostRuntime) -> Result<(), Fail> {
     let alloc = rt.alloc();
-    let container = Name16::root();
-    let spot = Spot::Own;
     let from = Blob::copy_of(alloc, b"abc".as_slice())?;
     let mut commands = Commands::new(alloc);
     commands.push(Command::PutContainer {
-        container,
-        spot,
+        container: Name16::root(),
+        spot: Spot::Own,
         from,
     })?;
-    commands.push(Command::GetContainer { container, spot })?;
+    commands.push(Command::GetContainer {
+        container: Name16::root(),
+        spot: Spot::Own,
+    })?;
     commands.push(Command::Return { end_activity: true })?;
     for (command, bytes) in commands.as_slice().iter().zip([3, 0, 0]) {
         assert_eq!(rt; command.data_bytes(), bytes);
