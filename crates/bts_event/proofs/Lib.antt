@@ -1,0 +1,14 @@
+pub mod Same
+pub mod Readings
+pub mod Change
+pub mod Orders
+pub mod Bits
+pub mod Subs
+pub mod SubCalls
+pub mod Defines
+pub mod NewComposites
+pub mod Leaves
+pub mod Joins
+pub mod Drops
+pub mod OneTurns
+pub mod Settling

@@ -1,0 +1,5 @@
+pub mod Composites
+pub mod Events
+pub mod Pool
+pub mod Refusals
+pub mod Sound
