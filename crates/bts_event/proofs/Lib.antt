@@ -12,3 +12,6 @@ pub mod Joins
 pub mod Drops
 pub mod OneTurns
 pub mod Settling
+pub mod Accounts
+pub mod Falls
+pub mod Made

@@ -5,6 +5,7 @@ use Rattle.bts_event.specs.declared.event.Event.TheVariants.{Atomic as atomic, C
 use Rattle.bts_names.specs.declared.reply.Reason.{Reason}
 use Rattle.bts_names.specs.declared.reply.Reason.TheVariants as reason
 use Rattle.bts_event.proofs.Defines.{Puts, absent_at, home-put, unnamed_put}
+use Rattle.bts_event.proofs.Subs.{before}
 use Rattle.bts_event.specs.Composites.{Composite}
 use Rattle.bts_event.specs.Events.{Events, has, holder, is_atomic, is_fired_atomic, new_composite}
 use Rattle.bts_event.specs.Pool.{Pool}

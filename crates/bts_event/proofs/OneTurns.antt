@@ -17,7 +17,7 @@ use Rattle.bts_event.proofs.Drops.{Drops, kept_by, kept_out}
 use Rattle.bts_event.proofs.NewComposites.{kept_in}
 use Rattle.bts_event.proofs.Readings.{find-change, read-change}
 use Rattle.bts_event.proofs.Same.{same_refl, same_sym}
-use Rattle.bts_event.proofs.Subs.{after_fired}
+use Rattle.bts_event.proofs.Subs.{after_fired, before}
 use Rattle.bts_event.specs.Composites.{Composite}
 use Rattle.bts_event.specs.Events.{Events, change, has, held_at, holder, holds, is_atomic, is_composite, is_fired_atomic, requeue, set_bit, value_of, with_bit}
 use Rattle.bts_event.specs.Pool.{Pool, entered, settled, settled_at, turns}

@@ -82,11 +82,12 @@ queue_fired g (Some (atomic a)) = refl
 queue_fired g (Some (composite c)) = refl
 
 -- what composite stood there before
-record Before (g : List Name → List Name) (t : Bool) (o : Option Event) (k : Composite) : Type 0 where
-  body : Composite
-  found : o ≡ Some (composite body)
-  subs : k.subs ≡ body.subs
-  queued : k.queued ≡ cond t (g body.queued) body.queued
+pub record Before (g : List Name → List Name) (t : Bool) (o : Option Event) (k : Composite) : Type 0 where
+  pub body : Composite
+  pub found : o ≡ Some (composite body)
+  pub all : k.all ≡ body.all
+  pub subs : k.subs ≡ body.subs
+  pub queued : k.queued ≡ cond t (g body.queued) body.queued
 
 before_same : (g : List Name → List Name) (o : Option Event) (k : Composite) → option_map (requeue g) o ≡ Some (composite k) → Before g true o k
 before_same g None k h = cc
@@ -94,11 +95,11 @@ before_same g (Some (atomic a)) k h = cc
 before_same g (Some (composite b)) k h =
     let m : Composite = record { all = b.all; subs = b.subs; queued = g b.queued } in
     let e : m ≡ k = cc in
-    record { body = b; found = refl; subs = ap (λ x. x.subs) (sym e); queued = ap (λ x. x.queued) (sym e) }
+    record { body = b; found = refl; all = ap (λ x. x.all) (sym e); subs = ap (λ x. x.subs) (sym e); queued = ap (λ x. x.queued) (sym e) }
 
-before : (g : List Name → List Name) (t : Bool) (o : Option Event) (k : Composite) → cond t (option_map (requeue g) o) o ≡ Some (composite k) → Before g t o k
+pub before : (g : List Name → List Name) (t : Bool) (o : Option Event) (k : Composite) → cond t (option_map (requeue g) o) o ≡ Some (composite k) → Before g t o k
 before g true o k h = before_same g o k h
-before g false o k h = record { body = k; found = h; subs = refl; queued = refl }
+before g false o k h = record { body = k; found = h; all = refl; subs = refl; queued = refl }
 
 -- the events after it
 abbrev after : Events → Name → (List Name → List Name) → Name → Bool → Events

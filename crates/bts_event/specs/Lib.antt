@@ -1,3 +1,4 @@
+pub mod Calls
 pub mod Composites
 pub mod Events
 pub mod Pool

@@ -37,6 +37,13 @@ impl Composite {
         })
     }
 
+    /// A composite of these parts.
+    pub fn from_parts(all: bool, subs: Vec<Name16>, queued: Vec<Name16>) -> Self
+        ensures { result ≡ record { all = all; subs = subs.items; queued = queued.items } }
+    {
+        Composite { all, subs, queued }
+    }
+
     /// Whether all sub-events must be fired, and not only one.
     pub fn is_of_all(&self) -> bool
         ensures { result ≡ self.now.all }

@@ -10,7 +10,7 @@ ghost use Rattle.bts_event.specs.Sound.{IsSoundPool};
 
 use crate::events::{
     completion_of, drop_first, event_of, forget_queued, forget_sub, has_completion, held_at,
-    holder, holds, kind_of_entry, next_subevent, push_queued, push_sub, set_bit,
+    holder, holds, kind_of_entry, map_of, next_subevent, push_queued, push_sub, set_bit,
 };
 use crate::queue::{drop_entries, enter};
 use crate::refusals::{
@@ -52,6 +52,39 @@ impl EventPool {
             queue: VecDeque::new(alloc),
             last: 0,
         }
+    }
+
+    /// A pool of these parts: events by rising name, entries by rising number, and the last number that an
+    /// entry got. They must be what a pool keeps.
+    pub fn from_parts(
+        alloc: Global,
+        events: Vec<(Name16, Event)>,
+        entries: Vec<Entry>,
+        last: u64,
+    ) -> Result<Self, NoMemory>
+        requires { IsSoundPool (record { events = events.items; entries = entries.items; last = last }) }
+        ensures { IfOk result (λ pool. pool ≡ record { events = events.items; entries = entries.items; last = last }) }
+    {
+        let events = map_of(alloc, events)?;
+        Ok(EventPool {
+            events,
+            queue: VecDeque::from(entries),
+            last,
+        })
+    }
+
+    /// The events by name.
+    pub fn events(&self) -> &BTreeMap<Name16, Event>
+        ensures { result.now.entries ≡ self.now.events }
+    {
+        &self.events
+    }
+
+    /// The entries, the oldest first.
+    pub fn entries(&self) -> &VecDeque<Entry>
+        ensures { result.now.items ≡ self.now.entries }
+    {
+        &self.queue
     }
 
     /// What every pool keeps, for the proofs of callers.
