@@ -7,13 +7,14 @@ use Rattle.std.specs.Cmp.Lexicographic.{slice_cmp}
 use Rattle.bts_event.specs.declared.queue.Entry.{Entry}
 use Rattle.bts_event.specs.declared.event.Event.{Event}
 use Rattle.bts_event.specs.declared.event.Event.TheVariants.{Atomic as atomic, Composite as composite}
+use Rattle.bts_names.specs.declared.reply.Reason.{Reason}
 use Rattle.bts_names.specs.declared.reply.Reason.TheVariants as reason
-use Rattle.bts_event.proofs.Readings.{find-change, home-change, keys-change, length-change, read-change}
+use Rattle.bts_event.proofs.Readings.{holder-change, keys-change, length-change, lookup-change, read-change}
 use Rattle.bts_event.proofs.Same.{same_refl}
 use Rattle.bts_event.specs.Composites.{Composite}
 use Rattle.bts_event.specs.Events.{Events, change, has, holder, is_atomic, is_fired_atomic, lists, set_bit, with_bit}
 use Rattle.bts_event.specs.Pool.{Pool, dropped}
-use Rattle.bts_event.specs.Refusals.{fire_refusal_of}
+use Rattle.bts_event.specs.Refusals.{fire_refusal_of, when}
 use Rattle.bts_event.specs.Sound.{AreSoundEvents, EntriesFit, IsSoundComposite, IsSoundPool, Rises, entries_of, one_if}
 use Rattle.bts_names.specs.Named.{lookup}
 use Rattle.bts_names.specs.Names.{Name, initial_name, same, same_exact}
@@ -36,17 +37,17 @@ bit_composite_at : (t b : Bool) (o : Option Event) (k : Composite) → cond t (o
 bit_composite_at true b o k h = bit_composite b o k h
 bit_composite_at false b o k h = h
 
-pub find_composite_bit : (es : Events) (name : Name) (b : Bool) (c : Name) (k : Composite)
+pub lookup_composite_bit : (es : Events) (name : Name) (b : Bool) (c : Name) (k : Composite)
     → lookup c (set_bit es name b) ≡ Some (composite k) → lookup c es ≡ Some (composite k)
-find_composite_bit es name b c k h = bit_composite_at (same name c) b (lookup c es) k (sym (find-change es name c (with_bit b)) ∙ h)
+lookup_composite_bit es name b c k h = bit_composite_at (same name c) b (lookup c es) k (sym (lookup-change es name c (with_bit b)) ∙ h)
 
 none_at : (t : Bool) (f : Event → Event) (o : Option Event) → o ≡ None → cond t (option_map f o) o ≡ None
 none_at true f None h = refl
 none_at true f (Some x) h = cc
 none_at false f o h = h
 
-pub find_none_change : (es : Events) (name n : Name) (f : Event → Event) → lookup n es ≡ None → lookup n (change es name f) ≡ None
-find_none_change es name n f h = find-change es name n f ∙ none_at (same name n) f (lookup n es) h
+pub lookup_none_change : (es : Events) (name n : Name) (f : Event → Event) → lookup n es ≡ None → lookup n (change es name f) ≡ None
+lookup_none_change es name n f h = lookup-change es name n f ∙ none_at (same name n) f (lookup n es) h
 
 differs_by : (t : Bool) (names : List Name) (m n : Name) → same m n ≡ t → has names m ≡ false → has names n ≡ true → same m n ≡ false
 differs_by true names m n e h g = let q : has names m ≡ has names n = ap (has names) (same_exact m n e) in cc
@@ -64,7 +65,7 @@ queue_case : (h : Bool) (es : Events) (name : Name) (b : Bool) (names : List Nam
     → has names n ≡ h → has names name ≡ false
     → (h && is_fired_atomic (lookup n es)) ≡ (h && is_fired_atomic (lookup n (set_bit es name b)))
 queue_case true es name b names n h g =
-    sym (ap is_fired_atomic (find-change es name n (with_bit b)) ∙ fired_other (same name n) b (lookup n es) (differs names name n g h))
+    sym (ap is_fired_atomic (lookup-change es name n (with_bit b)) ∙ fired_other (same name n) b (lookup n es) (differs names name n g h))
 queue_case false es name b names n h g = refl
 
 composite_bit : (es : Events) (name : Name) (b : Bool) (c : Name) (k : Composite)
@@ -73,7 +74,7 @@ composite_bit es name b c k g s = record {
   few = s.few;
   once = s.once;
   atomics = λ n h. read-change is_atomic es name n (with_bit b) (bit_atomic b) ∙ s.atomics n h;
-  alone = λ n h. home-change es name n (with_bit b) (bit_lists b n) ∙ s.alone n h;
+  alone = λ n h. holder-change es name n (with_bit b) (bit_lists b n) ∙ s.alone n h;
   queue = λ n. s.queue n ∙ ap one_if (queue_case (has k.subs n) es name b k.subs n refl g);
 }
 
@@ -83,8 +84,8 @@ pub set_bit_sound : (es : Events) (name : Name) (b : Bool) → AreSoundEvents es
 set_bit_sound es name b s free = record {
   ordered = subst (λ ks. IsStrictlySortedBy (slice_cmp nat_cmp) ks) (sym (keys-change es name (with_bit b))) s.ordered;
   few = subst (λ n. n ≤ 256) (sym (length-change es name (with_bit b))) s.few;
-  unnamed = find_none_change es name initial_name (with_bit b) s.unnamed;
-  composites = λ c k h. let g = find_composite_bit es name b c k h in composite_bit es name b c k (free c k g) (s.composites c k g);
+  unnamed = lookup_none_change es name initial_name (with_bit b) s.unnamed;
+  composites = λ c k h. let g = lookup_composite_bit es name b c k h in composite_bit es name b c k (free c k g) (s.composites c k g);
 }
 
 -- ---- numbers
@@ -142,9 +143,9 @@ retrieved_sound p e es q s = record {
       let f : EntriesFit n (lookup n p.events) (holder p.events n) (one_if (same e.name n) + entries_of n es) =
       subst (EntriesFit n (lookup n p.events) (holder p.events n)) (ap (entries_of n) q) (s.entries n) in
       let t = taken_case (same e.name n) n (lookup n p.events) (holder p.events n) (entries_of n es) f in
-      subst (λ o. EntriesFit n o (holder (set_bit p.events e.name false) n) (entries_of n es)) (sym (find-change p.events e.name n (with_bit false)))
+      subst (λ o. EntriesFit n o (holder (set_bit p.events e.name false) n) (entries_of n es)) (sym (lookup-change p.events e.name n (with_bit false)))
       (subst (λ h. EntriesFit n (cond (same e.name n) (option_map (with_bit false) (lookup n p.events)) (lookup n p.events)) h (entries_of n es))
-      (sym (home-change p.events e.name n (with_bit false) (bit_lists false n))) t);
+      (sym (holder-change p.events e.name n (with_bit false) (bit_lists false n))) t);
   numbers = let r : Rises 0 (e ∷ es) p.last = subst (λ x. Rises 0 x p.last) q s.numbers in rises_lower e.number 0 es p.last (omega arith) r.1;
 }
 
@@ -190,13 +191,13 @@ rises_dropped low (e ∷ es) last name r = rise_case (not (same e.name name)) lo
 
 -- ---- an atomic event that is no sub-event
 
-home_apart : (t : Bool) (es : Events) (name c : Name) (k : Composite) → IsSoundComposite es c k → holder es name ≡ None → has k.subs name ≡ t → has k.subs name ≡ false
-home_apart true es name c k s h g = let x : holder es name ≡ Some c = s.alone name g in cc
-home_apart false es name c k s h g = g
+holder_apart : (t : Bool) (es : Events) (name c : Name) (k : Composite) → IsSoundComposite es c k → holder es name ≡ None → has k.subs name ≡ t → has k.subs name ≡ false
+holder_apart true es name c k s h g = let x : holder es name ≡ Some c = s.alone name g in cc
+holder_apart false es name c k s h g = g
 
 pub free_at : (es : Events) (name : Name) → AreSoundEvents es → holder es name ≡ None
     → (c : Name) (k : Composite) → lookup c es ≡ Some (composite k) → has k.subs name ≡ false
-free_at es name s h c k g = home_apart (has k.subs name) es name c k (s.composites c k g) h refl
+free_at es name s h c k g = holder_apart (has k.subs name) es name c k (s.composites c k g) h refl
 
 fit_fired : (n : Name) (b : Bool) (o : Option Event) (many : ℕ) → is_atomic o ≡ true → EntriesFit n (option_map (with_bit b) o) None (one_if b)
 fit_fired n b None many h = cc
@@ -228,9 +229,9 @@ fired_sound p name s a b h = record {
   events = set_bit_sound p.events name true s.events (free_at p.events name s.events h);
   entries = λ n.
       subst (EntriesFit n (lookup n (set_bit p.events name true)) (holder (set_bit p.events name true) n)) (sym (entries_push n name p.entries (p.last + 1)))
-      (subst (λ o. EntriesFit n o (holder (set_bit p.events name true) n) (entries_of n p.entries + one_if (same name n))) (sym (find-change p.events name n (with_bit true)))
+      (subst (λ o. EntriesFit n o (holder (set_bit p.events name true) n) (entries_of n p.entries + one_if (same name n))) (sym (lookup-change p.events name n (with_bit true)))
       (subst (λ x. EntriesFit n (cond (same name n) (option_map (with_bit true) (lookup n p.events)) (lookup n p.events)) x (entries_of n p.entries + one_if (same name n)))
-      (sym (home-change p.events name n (with_bit true) (bit_lists true n)))
+      (sym (holder-change p.events name n (with_bit true) (bit_lists true n)))
       (fire_fit (same name n) p name n refl s a b h)));
   numbers = rises_push 0 p.entries p.last name s.numbers;
 }
@@ -250,18 +251,39 @@ cleared_sound p name s a h = record {
   events = set_bit_sound p.events name false s.events (free_at p.events name s.events h);
   entries = λ n.
       subst (EntriesFit n (lookup n (set_bit p.events name false)) (holder (set_bit p.events name false) n)) (sym (entries_dropped n name p.entries))
-      (subst (λ o. EntriesFit n o (holder (set_bit p.events name false) n) (cond (same name n) 0 (entries_of n p.entries))) (sym (find-change p.events name n (with_bit false)))
+      (subst (λ o. EntriesFit n o (holder (set_bit p.events name false) n) (cond (same name n) 0 (entries_of n p.entries))) (sym (lookup-change p.events name n (with_bit false)))
       (subst (λ x. EntriesFit n (cond (same name n) (option_map (with_bit false) (lookup n p.events)) (lookup n p.events)) x (cond (same name n) 0 (entries_of n p.entries)))
-      (sym (home-change p.events name n (with_bit false) (bit_lists false n)))
+      (sym (holder-change p.events name n (with_bit false) (bit_lists false n)))
       (clear_fit (same name n) p name n refl s a h)));
   numbers = rises_dropped 0 p.entries p.last name s.numbers;
 }
 
+pub not_when : (b : Bool) (r : Reason) → when b r ≡ None → b ≡ false
+not_when true r h = cc
+not_when false r h = refl
+
 pub fire_allowed : (o : Option Event) → fire_refusal_of o ≡ None → (is_atomic o ≡ true) × (is_fired_atomic o ≡ false)
 fire_allowed None h = cc
-fire_allowed (Some (atomic a)) h = (refl, unfired_by a.fired h)
-  where
-    unfired_by : (b : Bool) → cond b (Some reason.Fired) None ≡ None → b ≡ false
-    unfired_by true h = cc
-    unfired_by false h = refl
+fire_allowed (Some (atomic a)) h = (refl, not_when a.fired reason.Fired h)
 fire_allowed (Some (composite k)) h = cc
+
+-- ---- an event that joins a composite, or is in another one
+
+-- an unfired event has no entry, alone or in a composite
+pub adopt : (n c : Name) (o : Option Event) (many : ℕ) → is_atomic o ≡ true → is_fired_atomic o ≡ false → EntriesFit n o None many → EntriesFit n o (Some c) many
+adopt n c None many a b f = cc
+adopt n c (Some (atomic e)) many a b f = f ∙ ap one_if b
+adopt n c (Some (composite k)) many a b f = tt
+
+-- another composite than the one that has the name does not list it
+pub not_listed : (t : Bool) (es : Events) (name c x : Name) (k : Composite) → IsSoundComposite es x k → holder es name ≡ Some c → same c x ≡ false → has k.subs name ≡ t → has k.subs name ≡ false
+not_listed true es name c x k s h d g =
+    let e : Some c ≡ Some x = sym h ∙ s.alone name g in
+    let f : c ≡ x = cc in
+    let r : same c x ≡ true = ap (same c) (sym f) ∙ same_refl c in cc
+not_listed false es name c x k s h d g = g
+
+pub queue_kept : (t : Bool) (es fs : Events) (k : Composite) (n : Name) → has k.subs n ≡ t → (has k.subs n ≡ true → lookup n fs ≡ lookup n es)
+    → (t && is_fired_atomic (lookup n es)) ≡ (t && is_fired_atomic (lookup n fs))
+queue_kept true es fs k n e f = sym (ap is_fired_atomic (f e))
+queue_kept false es fs k n e f = refl

@@ -6,9 +6,10 @@ use Rattle.std.specs.List.Sorted.{IsStrictlySortedBy}
 use Rattle.std.specs.Ordering.{nat_cmp, is_eq, match_ordering}
 use Rattle.std.specs.Cmp.Lexicographic.{slice_cmp}
 use Rattle.bts_event.specs.declared.event.Event.{Event}
-use Rattle.bts_event.specs.declared.event.Event.TheVariants.{Composite as composite}
+use Rattle.bts_event.specs.declared.event.Event.TheVariants.{Atomic as atomic, Composite as composite}
 use Rattle.bts_event.specs.declared.event.Trigger.{Trigger}
 use Rattle.bts_event.proofs.Orders.{length-in_order, lookup-in_order, rising_in_order}
+use Rattle.bts_event.proofs.Readings.{head_none}
 use Rattle.bts_event.specs.Composites.{Composite}
 use Rattle.bts_event.specs.Events.{Events, has, holder, is_atomic, is_fired_atomic, lists, new_atomic}
 use Rattle.bts_event.specs.Pool.{Pool}
@@ -18,13 +19,9 @@ use Rattle.bts_names.specs.Names.{Name, initial_name, same, same_exact}
 
 -- ---- the composite of each name behind a new event
 
-home_none_head : (t : Bool) (k : Name) (o : Option Name) → cond t (Some k) o ≡ None → (t ≡ false) × (o ≡ None)
-home_none_head true k o h = cc
-home_none_head false k o h = (refl, h)
-
 behind : (t : Bool) (b : Bool) (k name : Name) (h o : Option Name) → (t ≡ true → cond b (Some k) o ≡ None) → h ≡ cond t (Some name) o
     → cond b (Some k) h ≡ cond t (Some name) (cond b (Some k) o)
-behind true b k name h o g e = let z = home_none_head b k o (g refl) in ap (λ x. cond x (Some k) h) z.0 ∙ e
+behind true b k name h o g e = let z = head_none b k o (g refl) in ap (λ x. cond x (Some k) h) z.0 ∙ e
 behind false b k name h o g e = ap (cond b (Some k)) e
 
 put_case : (r : Ordering) (e : List ℕ × Event) (es fs : Events) (name : Name) (v : Event) (n : Name)
@@ -36,12 +33,12 @@ put_case Less e es fs name v n f g ih = refl
 put_case Equal e es fs name v n f g ih = cc
 put_case Greater e es fs name v n f g ih =
     behind (lists v n) (lists e.1 n) e.0 name (holder fs n) (holder es n) g
-    (ih f (λ x. (home_none_head (lists e.1 n) e.0 (holder es n) (g x)).1))
+    (ih f (λ x. (head_none (lists e.1 n) e.0 (holder es n) (g x)).1))
 
-pub home-put : (es : Events) (name : Name) (v : Event) (n : Name) → lookup name es ≡ None → (lists v n ≡ true → holder es n ≡ None)
+pub holder-put : (es : Events) (name : Name) (v : Event) (n : Name) → lookup name es ≡ None → (lists v n ≡ true → holder es n ≡ None)
     → holder (in_order name v es) n ≡ cond (lists v n) (Some name) (holder es n)
-home-put [] name v n f g = refl
-home-put (e ∷ es) name v n f g = put_case (slice_cmp nat_cmp name e.0) e es (in_order name v es) name v n f g (home-put es name v n)
+holder-put [] name v n f g = refl
+holder-put (e ∷ es) name v n f g = put_case (slice_cmp nat_cmp name e.0) e es (in_order name v es) name v n f g (holder-put es name v n)
 
 -- ---- a new atomic event
 
@@ -90,7 +87,7 @@ atomic_composite es fs name trigger c k u m s = record {
 pub defined_sound : (p : Pool) (fs : Events) (name : Name) (trigger : Trigger) → IsSoundPool p → Puts p.events fs name (new_atomic trigger) → same name initial_name ≡ false
     → (let r : Pool = record { events = fs; entries = p.entries; last = p.last } in IsSoundPool r)
 defined_sound p fs name trigger s u i =
-    let m : (n : Name) → holder fs n ≡ holder p.events n = λ n. ap (λ x. holder x n) u.is_put ∙ home-put p.events name (new_atomic trigger) n u.absent (λ x. cc) in
+    let m : (n : Name) → holder fs n ≡ holder p.events n = λ n. ap (λ x. holder x n) u.is_put ∙ holder-put p.events name (new_atomic trigger) n u.absent (λ x. cc) in
     record {
       events = record {
         ordered = u.ordered;

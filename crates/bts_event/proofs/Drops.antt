@@ -7,11 +7,11 @@ use Rattle.std.specs.Cmp.Lexicographic.{slice_cmp}
 use Rattle.std.specs.List.{list_any}
 use Rattle.bts_event.specs.declared.event.Event.{Event}
 use Rattle.bts_event.specs.declared.event.Event.TheVariants.{Atomic as atomic, Composite as composite}
-use Rattle.bts_event.proofs.Bits.{differs, entries_dropped, free_at, rises_dropped}
-use Rattle.bts_event.proofs.Leaves.{fit_leave, fit_left, home_none, left_atomic, left_home, left_sound, other_home, removed_composite}
+use Rattle.bts_event.proofs.Bits.{differs, entries_dropped, free_at, queue_kept, rises_dropped}
+use Rattle.bts_event.proofs.Leaves.{fit_leave, fit_left, holder_none, left_atomic, left_holder, left_sound, other_holder, removed_composite}
 use Rattle.bts_event.proofs.NewComposites.{or_false}
 use Rattle.bts_event.proofs.Orders.{length-without, lookup-without, rising_without}
-use Rattle.bts_event.proofs.Readings.{find-change}
+use Rattle.bts_event.proofs.Readings.{lookup-change}
 use Rattle.bts_event.proofs.Same.{same_refl}
 use Rattle.bts_event.proofs.SubCalls.{settled_sound}
 use Rattle.bts_event.proofs.Subs.{owned}
@@ -37,9 +37,9 @@ without_case true e es fs name v n f l ih =
     sym (ap (λ t. cond t (Some e.0) (holder es n)) (ap (λ x. lists x n) (sym g) ∙ l))
 without_case false e es fs name v n f l ih = ap (cond (lists e.1 n) (Some e.0)) (ih f)
 
-pub home-without : (es : Events) (name : Name) (v : Event) (n : Name) → lookup name es ≡ Some v → lists v n ≡ false → holder (without name es) n ≡ holder es n
-home-without [] name v n f l = cc
-home-without (e ∷ es) name v n f l = without_case (same name e.0) e es (without name es) name v n f l (λ g. home-without es name v n g l)
+pub holder-without : (es : Events) (name : Name) (v : Event) (n : Name) → lookup name es ≡ Some v → lists v n ≡ false → holder (without name es) n ≡ holder es n
+holder-without [] name v n f l = cc
+holder-without (e ∷ es) name v n f l = without_case (same name e.0) e es (without name es) name v n f l (λ g. holder-without es name v n g l)
 
 pub kept_by : (t : Bool) (o : Option Event) (k : Composite) → cond t None o ≡ Some (composite k) → (t ≡ false) × (o ≡ Some (composite k))
 kept_by true o k h = cc
@@ -47,11 +47,6 @@ kept_by false o k h = (refl, h)
 
 pub kept_out : (es fs : Events) (name n : Name) → Drops es fs name → same name n ≡ false → lookup n fs ≡ lookup n es
 kept_out es fs name n d e = d.found n ∙ ap (λ t. cond t None (lookup n es)) e
-
-queue_kept : (t : Bool) (es fs : Events) (k : Composite) (n : Name) → has k.subs n ≡ t → (has k.subs n ≡ true → lookup n fs ≡ lookup n es)
-    → (t && is_fired_atomic (lookup n es)) ≡ (t && is_fired_atomic (lookup n fs))
-queue_kept true es fs k n e f = sym (ap is_fired_atomic (f e))
-queue_kept false es fs k n e f = refl
 
 drop_one : (es fs : Events) (name x : Name) (k : Composite) → Drops es fs name → IsSoundComposite es x k
     → ((n : Name) → has k.subs n ≡ true → (same name n ≡ false) × (holder fs n ≡ holder es n)) → IsSoundComposite fs x k
@@ -87,7 +82,7 @@ atomic_lists o (composite k) n e h = let z : is_atomic o ≡ false = ap is_atomi
 
 some_by : (es : Events) (name n : Name) (o : Option Event) → lookup name es ≡ o → is_atomic o ≡ true → holder (without name es) n ≡ holder es n
 some_by es name n None e h = cc
-some_by es name n (Some v) e h = home-without es name v n e (atomic_lists (Some v) v n refl h)
+some_by es name n (Some v) e h = holder-without es name v n e (atomic_lists (Some v) v n refl h)
 
 pub atomic_homes : (es fs : Events) (name : Name) → Drops es fs name → is_atomic (lookup name es) ≡ true → (n : Name) → holder fs n ≡ holder es n
 atomic_homes es fs name d a n = ap (λ x. holder x n) d.is_without ∙ some_by es name n (lookup name es) refl a
@@ -147,19 +142,19 @@ module _ (p : Pool) (fs : Events) (name : Name) (b : Composite) (o : IsSoundPool
   other_sub false x k n w e g h = h
 
   stays : (n : Name) → has b.subs n ≡ false → holder fs n ≡ holder p.events n
-  stays n h = ap (λ x. holder x n) d.is_without ∙ home-without p.events name (composite b) n f h
+  stays n h = ap (λ x. holder x n) d.is_without ∙ holder-without p.events name (composite b) n f h
 
   unlisted_by : (t : Bool) (x : Name) (k : Composite) (n : Name) → lookup x p.events ≡ Some (composite k) → same name x ≡ false → has b.subs n ≡ true → has k.subs n ≡ t → has k.subs n ≡ false
   unlisted_by true x k n g e h i = let z : has b.subs n ≡ false = other_sub (has b.subs n) x k n (o.events.composites x k g) e i refl in cc
   unlisted_by false x k n g e h i = i
 
-  homeless : (n : Name) → has b.subs n ≡ true → holder fs n ≡ None
-  homeless n h = home_none fs n d.ordered
+  unheld : (n : Name) → has b.subs n ≡ true → holder fs n ≡ None
+  unheld n h = holder_none fs n d.ordered
       (λ x k g. let z = kept_by (same name x) (lookup x p.events) k (sym (d.found x) ∙ g) in unlisted_by (has k.subs n) x k n z.1 z.0 h refl)
 
   fit_by : (t : Bool) (n : Name) → has b.subs n ≡ t → EntriesFit n (lookup n p.events) (holder fs n) (entries_of n p.entries)
   fit_by true n h =
-      subst (λ x. EntriesFit n (lookup n p.events) x (entries_of n p.entries)) (sym (homeless n h))
+      subst (λ x. EntriesFit n (lookup n p.events) x (entries_of n p.entries)) (sym (unheld n h))
       (fit_left n name (lookup n p.events) (entries_of n p.entries) (own.atomics n h) (none_fired p.events b.subs n calm h)
       (subst (λ x. EntriesFit n (lookup n p.events) x (entries_of n p.entries)) (own.alone n h) (o.entries n)))
   fit_by false n h = subst (λ x. EntriesFit n (lookup n p.events) x (entries_of n p.entries)) (sym (stays n h)) (o.entries n)
@@ -199,11 +194,11 @@ sub_delete p fs name c o h d =
     let q : Pool = record { events = fs; entries = dropped p.entries name; last = p.last } in
     let m : Pool = record { events = es; entries = p.entries; last = p.last } in
     let s : IsSoundPool q = record {
-      events = atomic_drop es fs name (left_sound p.events c name o.events h) d a' (left_home p.events c name o.events h);
+      events = atomic_drop es fs name (left_sound p.events c name o.events h) d a' (left_holder p.events c name o.events h);
       entries = dropped_entries m fs name d
           (λ n e.
-          subst (λ x. EntriesFit n (lookup n es) x (entries_of n p.entries)) (sym (atomic_homes es fs name d a' n ∙ other_home p.events c name o.events h n e))
-          (subst (λ x. EntriesFit n x (holder p.events n) (entries_of n p.entries)) (sym (find-change p.events c n (without_sub name)))
+          subst (λ x. EntriesFit n (lookup n es) x (entries_of n p.entries)) (sym (atomic_homes es fs name d a' n ∙ other_holder p.events c name o.events h n e))
+          (subst (λ x. EntriesFit n x (holder p.events n) (entries_of n p.entries)) (sym (lookup-change p.events c n (without_sub name)))
           (fit_leave n name (same c n) (lookup n p.events) (holder p.events n) (entries_of n p.entries) (o.entries n))));
       numbers = rises_dropped 0 p.entries p.last name o.numbers;
     } in

@@ -7,9 +7,9 @@ use Rattle.bts_event.specs.declared.event.Event.{Event}
 use Rattle.bts_event.specs.declared.event.Event.TheVariants.{Atomic as atomic, Composite as composite}
 use Rattle.bts_names.specs.declared.reply.Reason.{Reason}
 use Rattle.bts_names.specs.declared.state.EventKind.{EventKind}
-use Rattle.bts_event.proofs.Bits.{find_composite_bit}
+use Rattle.bts_event.proofs.Bits.{lookup_composite_bit}
 use Rattle.bts_event.proofs.OneTurns.{settled_none}
-use Rattle.bts_event.proofs.Readings.{find-change, find-change_other}
+use Rattle.bts_event.proofs.Readings.{lookup-change, lookup-change_other}
 use Rattle.bts_event.proofs.Same.{same_refl}
 use Rattle.bts_event.proofs.Subs.{after_fired, before}
 use Rattle.bts_event.specs.Composites.{Composite}
@@ -72,8 +72,8 @@ fired_then false o h = h
 bit_falls : (es : Events) (name x : Name) → turns es (set_bit es name false) x ≡ false
 bit_falls es name x =
     falling (lookup x (set_bit es name false)) (held_at (set_bit es name false) x) (held_at es x)
-    (λ k f v. held_falls es (set_bit es name false) x k k (find_composite_bit es name false x k f) f refl refl
-    (λ n h. fired_then (same name n) (lookup n es) (sym (ap is_fired_atomic (find-change es name n (with_bit false))) ∙ h)) v)
+    (λ k f v. held_falls es (set_bit es name false) x k k (lookup_composite_bit es name false x k f) f refl refl
+    (λ n h. fired_then (same name n) (lookup n es) (sym (ap is_fired_atomic (lookup-change es name n (with_bit false))) ∙ h)) v)
 
 fired_within_then : (t a f : Bool) → cond t (a && false) f ≡ true → f ≡ true
 fired_within_then true true f h = cc
@@ -86,7 +86,7 @@ queue_falls es c g name x =
     let fs = set_bit (change es c (requeue g)) name false in
     falling (lookup x fs) (held_at fs x) (held_at es x)
     (λ k f v.
-    let w = before g (same c x) (lookup x es) k (sym (find-change es c x (requeue g)) ∙ find_composite_bit (change es c (requeue g)) name false x k f) in
+    let w = before g (same c x) (lookup x es) k (sym (lookup-change es c x (requeue g)) ∙ lookup_composite_bit (change es c (requeue g)) name false x k f) in
     held_falls es fs x w.body k w.found f w.all w.subs
     (λ n h. fired_within_then (same name n) (is_atomic (lookup n es)) (is_fired_atomic (lookup n es)) (sym (after_fired es c g name false n) ∙ h)) v)
 
@@ -126,10 +126,10 @@ bit_off true (Some (composite k)) h = refl
 bit_off false o h = cc
 
 off : (es : Events) (n : Name) → is_fired_atomic (lookup n (set_bit es n false)) ≡ false
-off es n = ap is_fired_atomic (find-change es n n (with_bit false)) ∙ bit_off (same n n) (lookup n es) (same_refl n)
+off es n = ap is_fired_atomic (lookup-change es n n (with_bit false)) ∙ bit_off (same n n) (lookup n es) (same_refl n)
 
 others : (es : Events) (c n : Name) (f : Event → Event) → same c n ≡ false → lookup n (change es c f) ≡ lookup n es
-others es c n f d = find-change_other es c n f d
+others es c n f d = lookup-change_other es c n f d
 
 first_taken_is : (p : Pool) (e : Entry) (es : List Entry) → p.entries ≡ e ∷ es → (let q : Pool = record { events = set_bit p.events e.name false; entries = es; last = p.last } in retrieved p ≡ q)
 first_taken_is p e es h = ap (λ q. first_taken q p) h

@@ -9,9 +9,9 @@ use Rattle.std.specs.Prelude.{nat_le}
 use Rattle.bts_event.specs.declared.event.Event.{Event}
 use Rattle.bts_event.specs.declared.event.Event.TheVariants.{Atomic as atomic, Composite as composite}
 use Rattle.bts_names.specs.declared.reply.Reason.TheVariants as reason
-use Rattle.bts_event.proofs.Bits.{find_none_change}
+use Rattle.bts_event.proofs.Bits.{adopt, lookup_none_change, not_when}
 use Rattle.bts_event.proofs.NewComposites.{SubOk, has_push, or_none, sub_ok}
-use Rattle.bts_event.proofs.Readings.{find-change, home-change, keys-change, length-change, read-change}
+use Rattle.bts_event.proofs.Readings.{head_none, holder-change, keys-change, length-change, lookup-change, read-change}
 use Rattle.bts_event.proofs.Same.{same_refl}
 use Rattle.bts_event.proofs.SubCalls.{times_push}
 use Rattle.bts_event.specs.Composites.{Composite}
@@ -44,10 +44,6 @@ join_fired s None = refl
 join_fired s (Some (atomic a)) = refl
 join_fired s (Some (composite k)) = refl
 
-head_none : (t : Bool) (k : Name) (o : Option Name) → cond t (Some k) o ≡ None → (t ≡ false) × (o ≡ None)
-head_none true k o h = cc
-head_none false k o h = (refl, h)
-
 joined_lists : (s : Name) (v : Event) (b : Composite) → v ≡ composite b → lists (with_sub s v) s ≡ true
 joined_lists s v b h = ap (λ x. lists (with_sub s x) s) h ∙ has_push b.subs s s ∙ or_true (has b.subs s) (same s s) (same_refl s)
 
@@ -62,9 +58,9 @@ join_case false e es fs c s b i f h ih =
     let z = head_none (lists e.1 s) e.0 (holder es s) h in
     ap (λ t. cond t (Some e.0) (holder fs s)) z.0 ∙ ih f z.1
 
-pub joined_home : (es : Events) (c s : Name) (b : Composite) → lookup c es ≡ Some (composite b) → holder es s ≡ None → holder (change es c (with_sub s)) s ≡ Some c
-joined_home [] c s b f h = cc
-joined_home (e ∷ es) c s b f h = join_case (same c e.0) e es (change es c (with_sub s)) c s b refl f h (joined_home es c s b)
+pub joined_holder : (es : Events) (c s : Name) (b : Composite) → lookup c es ≡ Some (composite b) → holder es s ≡ None → holder (change es c (with_sub s)) s ≡ Some c
+joined_holder [] c s b f h = cc
+joined_holder (e ∷ es) c s b f h = join_case (same c e.0) e es (change es c (with_sub s)) c s b refl f h (joined_holder es c s b)
 
 record Joined (s : Name) (t : Bool) (o : Option Event) (k : Composite) : Type 0 where
   body : Composite
@@ -116,7 +112,7 @@ and_true false b h = cc
 
 module _ (es : Events) (c s : Name) (b : Composite) (o : AreSoundEvents es) (f : lookup c es ≡ Some (composite b)) (short : length b.subs < 32) (ok : SubOk es [] s) where
   missing : (x : Name) (k : Composite) → lookup x es ≡ Some (composite k) → has k.subs s ≡ false
-  missing x k g = no_home_has (has k.subs s) es s x k (o.composites x k g) ok.homeless refl
+  missing x k g = no_home_has (has k.subs s) es s x k (o.composites x k g) ok.unheld refl
 
   missing_at : (x : Name) (k : Composite) (t : Bool) (n : Name) → lookup x es ≡ Some (composite k) → (t && same s n) ≡ true → has k.subs n ≡ false
   missing_at x k t n g h = subst (λ m. has k.subs m ≡ false) (same_exact s n (and_true t (same s n) h).1) (missing x k g)
@@ -127,8 +123,8 @@ module _ (es : Events) (c s : Name) (b : Composite) (o : AreSoundEvents es) (f :
   now_fired : (n : Name) → is_fired_atomic (lookup n (change es c (with_sub s))) ≡ is_fired_atomic (lookup n es)
   now_fired n = read-change is_fired_atomic es c n (with_sub s) (join_fired s)
 
-  pub now_home : (n : Name) → same s n ≡ false → holder (change es c (with_sub s)) n ≡ holder es n
-  now_home n d = home-change es c n (with_sub s) (join_lists s n d)
+  pub now_holder : (n : Name) → same s n ≡ false → holder (change es c (with_sub s)) n ≡ holder es n
+  now_holder n d = holder-change es c n (with_sub s) (join_lists s n d)
 
   member_atomic : (h t : Bool) (x : Name) (k : Composite) (n : Name) → IsSoundComposite es x k → has k.subs n ≡ h → (h || (t && same s n)) ≡ true → is_atomic (lookup n es) ≡ true
   member_atomic true t x k n w e g = w.atomics n e
@@ -138,12 +134,12 @@ module _ (es : Events) (c s : Name) (b : Composite) (o : AreSoundEvents es) (f :
   differs_by true x k n g h e = let z : has k.subs n ≡ false = subst (λ m. has k.subs m ≡ false) (same_exact s n e) (missing x k g) in cc
   differs_by false x k n g h e = e
 
-  member_home : (h t : Bool) (x : Name) (k : Composite) (n : Name) → same c x ≡ t → lookup x es ≡ Some (composite k) → IsSoundComposite es x k → has k.subs n ≡ h → (h || (t && same s n)) ≡ true
+  member_holder : (h t : Bool) (x : Name) (k : Composite) (n : Name) → same c x ≡ t → lookup x es ≡ Some (composite k) → IsSoundComposite es x k → has k.subs n ≡ h → (h || (t && same s n)) ≡ true
       → holder (change es c (with_sub s)) n ≡ Some x
-  member_home true t x k n i g w e q = now_home n (differs_by (same s n) x k n g e refl) ∙ w.alone n e
-  member_home false t x k n i g w e q =
+  member_holder true t x k n i g w e q = now_holder n (differs_by (same s n) x k n g e refl) ∙ w.alone n e
+  member_holder false t x k n i g w e q =
       let z = and_true t (same s n) q in
-      subst (λ m. holder (change es c (with_sub s)) m ≡ Some x) (same_exact s n z.1) (joined_home es c s b f ok.homeless ∙ ap Some (same_exact c x (i ∙ z.0)))
+      subst (λ m. holder (change es c (with_sub s)) m ≡ Some x) (same_exact s n z.1) (joined_holder es c s b f ok.unheld ∙ ap Some (same_exact c x (i ∙ z.0)))
 
   waiting : (h q : Bool) (k : Composite) (n : Name) (many : ℕ) → (q ≡ true → is_fired_atomic (lookup n es) ≡ false) → (q ≡ true → h ≡ false) → many ≡ one_if (h && is_fired_atomic (lookup n es))
       → many ≡ one_if ((h || q) && is_fired_atomic (lookup n es))
@@ -163,7 +159,7 @@ module _ (es : Events) (c s : Name) (b : Composite) (o : AreSoundEvents es) (f :
             ap (times n) l.subs ∙ times_then (same c x) s l.body.subs n
             ∙ push_once (same c x && same s n) (has l.body.subs n) (times n l.body.subs) (missing_at x l.body (same c x) n l.found) (w.once n) ∙ sym (ap one_if (subs n));
         atomics = λ n g. now_atomic n ∙ member_atomic (has l.body.subs n) (same c x) x l.body n w refl (sym (subs n) ∙ g);
-        alone = λ n g. member_home (has l.body.subs n) (same c x) x l.body n refl l.found w refl (sym (subs n) ∙ g);
+        alone = λ n g. member_holder (has l.body.subs n) (same c x) x l.body n refl l.found w refl (sym (subs n) ∙ g);
         queue = λ n.
             ap (times n) l.queued
             ∙ waiting (has l.body.subs n) (same c x && same s n) k n (times n l.body.queued)
@@ -176,8 +172,8 @@ module _ (es : Events) (c s : Name) (b : Composite) (o : AreSoundEvents es) (f :
   joined_sound = record {
     ordered = subst (λ ks. IsStrictlySortedBy (slice_cmp nat_cmp) ks) (sym (keys-change es c (with_sub s))) o.ordered;
     few = subst (λ n. n ≤ 256) (sym (length-change es c (with_sub s))) o.few;
-    unnamed = find_none_change es c initial_name (with_sub s) o.unnamed;
-    composites = λ x k g. each x k (joined s (same c x) (lookup x es) k (sym (find-change es c x (with_sub s)) ∙ g));
+    unnamed = lookup_none_change es c initial_name (with_sub s) o.unnamed;
+    composites = λ x k g. each x k (joined s (same c x) (lookup x es) k (sym (lookup-change es c x (with_sub s)) ∙ g));
   }
 
 fit_join : (n s : Name) (t : Bool) (o : Option Event) (h : Option Name) (many : ℕ) → EntriesFit n o h many → EntriesFit n (cond t (option_map (with_sub s) o) o) h many
@@ -186,42 +182,33 @@ fit_join n s true (Some (atomic a)) h many f = f
 fit_join n s true (Some (composite k)) h many f = tt
 fit_join n s false o h many f = f
 
-adopt : (n c : Name) (o : Option Event) (many : ℕ) → is_atomic o ≡ true → is_fired_atomic o ≡ false → EntriesFit n o None many → EntriesFit n o (Some c) many
-adopt n c None many a b f = cc
-adopt n c (Some (atomic e)) many a b f = f ∙ ap one_if b
-adopt n c (Some (composite k)) many a b f = tt
-
 join_fit : (t : Bool) (p : Pool) (c s n : Name) (b : Composite) → same s n ≡ t → IsSoundPool p → lookup c p.events ≡ Some (composite b) → length b.subs < 32 → SubOk p.events [] s
     → EntriesFit n (lookup n p.events) (holder (change p.events c (with_sub s)) n) (entries_of n p.entries)
 join_fit true p c s n b e o f short ok =
     let same = same_exact s n e in
-    let h' : holder (change p.events c (with_sub s)) n ≡ Some c = subst (λ m. holder (change p.events c (with_sub s)) m ≡ Some c) same (joined_home p.events c s b f ok.homeless) in
+    let h' : holder (change p.events c (with_sub s)) n ≡ Some c = subst (λ m. holder (change p.events c (with_sub s)) m ≡ Some c) same (joined_holder p.events c s b f ok.unheld) in
     subst (λ x. EntriesFit n (lookup n p.events) x (entries_of n p.entries)) (sym h')
     (adopt n c (lookup n p.events) (entries_of n p.entries) (subst (λ m. is_atomic (lookup m p.events) ≡ true) same ok.is_one) (subst (λ m. is_fired_atomic (lookup m p.events) ≡ false) same ok.unfired)
-    (subst (λ x. EntriesFit n (lookup n p.events) x (entries_of n p.entries)) (subst (λ m. holder p.events m ≡ None) same ok.homeless) (o.entries n)))
+    (subst (λ x. EntriesFit n (lookup n p.events) x (entries_of n p.entries)) (subst (λ m. holder p.events m ≡ None) same ok.unheld) (o.entries n)))
 join_fit false p c s n b e o f short ok =
-    subst (λ x. EntriesFit n (lookup n p.events) x (entries_of n p.entries)) (sym (now_home p.events c s b o.events f short ok n e)) (o.entries n)
+    subst (λ x. EntriesFit n (lookup n p.events) x (entries_of n p.entries)) (sym (now_holder p.events c s b o.events f short ok n e)) (o.entries n)
 
 added_sound : (p : Pool) (c s : Name) (b : Composite) → IsSoundPool p → lookup c p.events ≡ Some (composite b) → length b.subs < 32 → SubOk p.events [] s
     → (let q : Pool = record { events = change p.events c (with_sub s); entries = p.entries; last = p.last } in IsSoundPool q)
 added_sound p c s b o f short ok = record {
   events = joined_sound p.events c s b o.events f short ok;
   entries = λ n.
-      subst (λ x. EntriesFit n x (holder (change p.events c (with_sub s)) n) (entries_of n p.entries)) (sym (find-change p.events c n (with_sub s)))
+      subst (λ x. EntriesFit n x (holder (change p.events c (with_sub s)) n) (entries_of n p.entries)) (sym (lookup-change p.events c n (with_sub s)))
       (fit_join n s (same c n) (lookup n p.events) _ (entries_of n p.entries) (join_fit (same s n) p c s n b refl o f short ok));
   numbers = o.numbers;
 }
-
-full_none : (b : Bool) → cond b (Some reason.Limit) None ≡ None → b ≡ false
-full_none true h = cc
-full_none false h = refl
 
 -- where no refusal holds
 add_by : (p : Pool) (c s : Name) (e : Option Event) → lookup c p.events ≡ e → IsSoundPool p → not_composite e ≡ None → sub_refusal p.events [] s ≡ None → when (is_full_composite e) reason.Limit ≡ None
     → (let q : Pool = record { events = change p.events c (with_sub s); entries = p.entries; last = p.last } in IsSoundPool q)
 add_by p c s None e o g h l = cc
 add_by p c s (Some (atomic a)) e o g h l = cc
-add_by p c s (Some (composite b)) e o g h l = added_sound p c s b o e (leb-false 32 (length b.subs) (full_none (nat_le 32 (length b.subs)) l)) (sub_ok p.events [] s h)
+add_by p c s (Some (composite b)) e o g h l = added_sound p c s b o e (leb-false 32 (length b.subs) (not_when (nat_le 32 (length b.subs)) reason.Limit l)) (sub_ok p.events [] s h)
 
 pub add_sound : (p : Pool) (c s : Name) → IsSoundPool p → add_refusal c s p.events ≡ None
     → (let q : Pool = record { events = change p.events c (with_sub s); entries = p.entries; last = p.last } in IsSoundPool q)

@@ -9,8 +9,8 @@ use Rattle.bts_event.specs.declared.queue.Entry.{Entry}
 use Rattle.bts_event.specs.declared.event.Event.{Event}
 use Rattle.bts_event.specs.declared.event.Event.TheVariants.{Atomic as atomic, Composite as composite}
 use Rattle.bts_names.specs.declared.reply.Reason.TheVariants as reason
-use Rattle.bts_event.proofs.Bits.{find_none_change, not_both, same_left}
-use Rattle.bts_event.proofs.Readings.{find-change, home-change, keys-change, length-change, read-change}
+use Rattle.bts_event.proofs.Bits.{lookup_none_change, not_both, not_listed, same_left}
+use Rattle.bts_event.proofs.Readings.{holder-change, keys-change, length-change, lookup-change, read-change}
 use Rattle.bts_event.proofs.Same.{same_refl}
 use Rattle.bts_event.proofs.SubCalls.{settled_sound, times_but}
 use Rattle.bts_event.proofs.Subs.{owned}
@@ -22,15 +22,15 @@ use Rattle.bts_event.specs.Sound.{AreSoundEvents, EntriesFit, IsSoundComposite, 
 use Rattle.bts_names.specs.Named.{lookup}
 use Rattle.bts_names.specs.Names.{Name, initial_name, same, same_exact}
 
--- no composite has it: it has no holder
+-- no composite has it: no holder
 none_by : (o : Option Name) (fs : Events) (n : Name) → holder fs n ≡ o → IsStrictlySortedBy (slice_cmp nat_cmp) (keys_of fs)
     → ((x : Name) (k : Composite) → lookup x fs ≡ Some (composite k) → has k.subs n ≡ false) → o ≡ None
 none_by None fs n e s h = refl
 none_by (Some x) fs n e s h = let o = owned fs n x s e in let z : has o.body.subs n ≡ false = h x o.body o.found in let y = o.listed in cc
 
-pub home_none : (fs : Events) (n : Name) → IsStrictlySortedBy (slice_cmp nat_cmp) (keys_of fs)
+pub holder_none : (fs : Events) (n : Name) → IsStrictlySortedBy (slice_cmp nat_cmp) (keys_of fs)
     → ((x : Name) (k : Composite) → lookup x fs ≡ Some (composite k) → has k.subs n ≡ false) → holder fs n ≡ None
-home_none fs n s h = none_by (holder fs n) fs n refl s h
+holder_none fs n s h = none_by (holder fs n) fs n refl s h
 
 -- ---- leaving
 
@@ -92,14 +92,6 @@ left : (s : Name) (t : Bool) (o : Option Event) (k : Composite) → cond t (opti
 left s true o k h = left_same s o k h
 left s false o k h = record { body = k; found = h; subs = refl; queued = refl }
 
--- a list of another composite has no s
-other_has : (t : Bool) (es : Events) (c s x : Name) (k : Composite) → IsSoundComposite es x k → holder es s ≡ Some c → same c x ≡ false → has k.subs s ≡ t → has k.subs s ≡ false
-other_has true es c s x k o h d e =
-    let q : Some c ≡ Some x = sym h ∙ o.alone s e in
-    let f : c ≡ x = cc in
-    let r : same c x ≡ true = ap (same c) (sym f) ∙ same_refl c in cc
-other_has false es c s x k o h d e = e
-
 -- in each case the new list is the old one without s
 subs_then : (t : Bool) (es : Events) (c s x : Name) (b : Composite) (n : Name) → same c x ≡ t → IsSoundComposite es x b → holder es s ≡ Some c
     → has (cond t (except b.subs s) b.subs) n ≡ cond (same s n) false (has b.subs n)
@@ -107,7 +99,7 @@ subs_then true es c s x b n e o h = has_but b.subs s n
 subs_then false es c s x b n e o h = stay (same s n) refl
   where
     stay : (q : Bool) → same s n ≡ q → has b.subs n ≡ cond q false (has b.subs n)
-    stay true g = ap (has b.subs) (sym (same_exact s n g)) ∙ other_has (has b.subs s) es c s x b o h e refl
+    stay true g = ap (has b.subs) (sym (same_exact s n g)) ∙ not_listed (has b.subs s) es s c x b o h e refl
     stay false g = refl
 
 times_then : (t : Bool) (es : Events) (c s x : Name) (b : Composite) (n : Name) → same c x ≡ t → IsSoundComposite es x b → holder es s ≡ Some c
@@ -116,7 +108,7 @@ times_then true es c s x b n e o h = times_but n s b.subs
 times_then false es c s x b n e o h = stay (same s n) refl
   where
     stay : (q : Bool) → same s n ≡ q → times n b.subs ≡ cond q 0 (times n b.subs)
-    stay true g = o.once n ∙ ap one_if (ap (has b.subs) (sym (same_exact s n g)) ∙ other_has (has b.subs s) es c s x b o h e refl)
+    stay true g = o.once n ∙ ap one_if (ap (has b.subs) (sym (same_exact s n g)) ∙ not_listed (has b.subs s) es s c x b o h e refl)
     stay false g = refl
 
 queue_then : (t : Bool) (es : Events) (c s x : Name) (b : Composite) (n : Name) → same c x ≡ t → IsSoundComposite es x b → holder es s ≡ Some c
@@ -126,7 +118,7 @@ queue_then false es c s x b n e o h = stay (same s n) refl
   where
     stay : (q : Bool) → same s n ≡ q → times n b.queued ≡ cond q 0 (times n b.queued)
     stay true g =
-        o.queue n ∙ ap (λ y. one_if (y && is_fired_atomic (lookup n es))) (ap (has b.subs) (sym (same_exact s n g)) ∙ other_has (has b.subs s) es c s x b o h e refl)
+        o.queue n ∙ ap (λ y. one_if (y && is_fired_atomic (lookup n es))) (ap (has b.subs) (sym (same_exact s n g)) ∙ not_listed (has b.subs s) es s c x b o h e refl)
     stay false g = refl
 
 one_cond : (t h : Bool) (many : ℕ) → many ≡ one_if h → cond t 0 many ≡ one_if (cond t false h)
@@ -161,17 +153,17 @@ module _ (es : Events) (c s : Name) (o : AreSoundEvents es) (h : holder es s ≡
   sorted = subst (λ ks. IsStrictlySortedBy (slice_cmp nat_cmp) ks) (sym (keys-change es c (without_sub s))) o.ordered
 
   before : (x : Name) (k : Composite) → lookup x (change es c (without_sub s)) ≡ Some (composite k) → Left s (same c x) (lookup x es) k
-  before x k f = left s (same c x) (lookup x es) k (sym (find-change es c x (without_sub s)) ∙ f)
+  before x k f = left s (same c x) (lookup x es) k (sym (lookup-change es c x (without_sub s)) ∙ f)
 
   members : (x : Name) (k : Composite) (l : Left s (same c x) (lookup x es) k) (n : Name) → has k.subs n ≡ cond (same s n) false (has l.body.subs n)
   members x k l n = ap (λ y. has y n) l.subs ∙ subs_then (same c x) es c s x l.body n refl (o.composites x l.body l.found) h
 
-  pub left_home : holder (change es c (without_sub s)) s ≡ None
-  left_home = home_none (change es c (without_sub s)) s sorted
+  pub left_holder : holder (change es c (without_sub s)) s ≡ None
+  left_holder = holder_none (change es c (without_sub s)) s sorted
       (λ x k f. let l = before x k f in members x k l s ∙ ap (λ t. cond t false (has l.body.subs s)) (same_refl s))
 
-  pub other_home : (n : Name) → same s n ≡ false → holder (change es c (without_sub s)) n ≡ holder es n
-  other_home n d = home-change es c n (without_sub s) (leave_lists s n d)
+  pub other_holder : (n : Name) → same s n ≡ false → holder (change es c (without_sub s)) n ≡ holder es n
+  other_holder n d = holder-change es c n (without_sub s) (leave_lists s n d)
 
   pub left_fired : (n : Name) → is_fired_atomic (lookup n (change es c (without_sub s))) ≡ is_fired_atomic (lookup n es)
   left_fired n = read-change is_fired_atomic es c n (without_sub s) (leave_fired s)
@@ -186,7 +178,7 @@ module _ (es : Events) (c s : Name) (o : AreSoundEvents es) (h : holder es s ≡
         few = subst (λ y. length y ≤ 32) (sym l.subs) (short_then (same c x) l.body.subs s b.few);
         once = λ n. ap (times n) l.subs ∙ times_then (same c x) es c s x l.body n refl b h ∙ one_cond (same s n) (has l.body.subs n) _ (b.once n) ∙ sym (ap one_if (members x k l n));
         atomics = λ n g. left_atomic n ∙ b.atomics n (true_under (same s n) (has l.body.subs n) (sym (members x k l n) ∙ g)).1;
-        alone = λ n g. let z = true_under (same s n) (has l.body.subs n) (sym (members x k l n) ∙ g) in other_home n z.0 ∙ b.alone n z.1;
+        alone = λ n g. let z = true_under (same s n) (has l.body.subs n) (sym (members x k l n) ∙ g) in other_holder n z.0 ∙ b.alone n z.1;
         queue = λ n.
             ap (times n) l.queued ∙ queue_then (same c x) es c s x l.body n refl b h
             ∙ one_and (same s n) (has l.body.subs n) (is_fired_atomic (lookup n es)) _ (b.queue n)
@@ -197,7 +189,7 @@ module _ (es : Events) (c s : Name) (o : AreSoundEvents es) (h : holder es s ≡
   left_sound = record {
     ordered = sorted;
     few = subst (λ n. n ≤ 256) (sym (length-change es c (without_sub s))) o.few;
-    unnamed = find_none_change es c initial_name (without_sub s) o.unnamed;
+    unnamed = lookup_none_change es c initial_name (without_sub s) o.unnamed;
     composites = λ x k f. each x k (before x k f);
   }
 
@@ -223,12 +215,12 @@ left_fit : (t : Bool) (p : Pool) (c s n : Name) → same s n ≡ t → IsSoundPo
 left_fit true p c s n e o h a b =
     let same = same_exact s n e in
     let es = p.events in
-    let h' : holder (change p.events c (without_sub s)) n ≡ None = subst (λ m. holder (change p.events c (without_sub s)) m ≡ None) same (left_home p.events c s o.events h) in
+    let h' : holder (change p.events c (without_sub s)) n ≡ None = subst (λ m. holder (change p.events c (without_sub s)) m ≡ None) same (left_holder p.events c s o.events h) in
     subst (λ x. EntriesFit n (lookup n p.events) x (entries_of n p.entries)) (sym h')
     (fit_left n c (lookup n p.events) (entries_of n p.entries) (subst (λ m. is_atomic (lookup m p.events) ≡ true) same a) (subst (λ m. is_fired_atomic (lookup m p.events) ≡ false) same b)
     (subst (λ x. EntriesFit n (lookup n p.events) x (entries_of n p.entries)) (subst (λ m. holder p.events m ≡ Some c) same h) (o.entries n)))
 left_fit false p c s n e o h a b =
-    subst (λ x. EntriesFit n (lookup n p.events) x (entries_of n p.entries)) (sym (other_home p.events c s o.events h n e)) (o.entries n)
+    subst (λ x. EntriesFit n (lookup n p.events) x (entries_of n p.entries)) (sym (other_holder p.events c s o.events h n e)) (o.entries n)
 
 -- REMOVE SUBEVENT, before its entry
 pub removed_sound : (p : Pool) (c s : Name) → IsSoundPool p → holder p.events s ≡ Some c → is_atomic (lookup s p.events) ≡ true → is_fired_atomic (lookup s p.events) ≡ false
@@ -236,7 +228,7 @@ pub removed_sound : (p : Pool) (c s : Name) → IsSoundPool p → holder p.event
 removed_sound p c s o h a b = record {
   events = left_sound p.events c s o.events h;
   entries = λ n.
-      subst (λ x. EntriesFit n x (holder (change p.events c (without_sub s)) n) (entries_of n p.entries)) (sym (find-change p.events c n (without_sub s)))
+      subst (λ x. EntriesFit n x (holder (change p.events c (without_sub s)) n) (entries_of n p.entries)) (sym (lookup-change p.events c n (without_sub s)))
       (fit_leave n s (same c n) (lookup n p.events) _ (entries_of n p.entries) (left_fit (same s n) p c s n refl o h a b));
   numbers = o.numbers;
 }

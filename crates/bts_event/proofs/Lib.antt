@@ -15,3 +15,4 @@ pub mod Settling
 pub mod Accounts
 pub mod Falls
 pub mod Made
+pub mod Examples

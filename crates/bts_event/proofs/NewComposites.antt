@@ -4,12 +4,13 @@ use Rattle.bts_event.specs.declared.event.Event.{Event}
 use Rattle.bts_event.specs.declared.event.Event.TheVariants.{Atomic as atomic, Composite as composite}
 use Rattle.bts_names.specs.declared.reply.Reason.{Reason}
 use Rattle.bts_names.specs.declared.reply.Reason.TheVariants as reason
-use Rattle.bts_event.proofs.Defines.{Puts, absent_at, home-put, unnamed_put}
+use Rattle.bts_event.proofs.Bits.{adopt, not_when, queue_kept}
+use Rattle.bts_event.proofs.Defines.{Puts, absent_at, holder-put, unnamed_put}
 use Rattle.bts_event.proofs.Subs.{before}
 use Rattle.bts_event.specs.Composites.{Composite}
 use Rattle.bts_event.specs.Events.{Events, has, holder, is_atomic, is_fired_atomic, new_composite}
 use Rattle.bts_event.specs.Pool.{Pool}
-use Rattle.bts_event.specs.Refusals.{or_else, sub_refusal, sub_refusal_of, subs_refusal, when}
+use Rattle.bts_event.specs.Refusals.{or_else, sub_refusal, sub_refusal_of, subs_refusal}
 use Rattle.bts_event.specs.Sound.{EntriesFit, IsSoundComposite, IsSoundPool, entries_of, one_if, times}
 use Rattle.bts_names.specs.Named.{lookup}
 use Rattle.bts_names.specs.Names.{Name, initial_name, same, same_exact}
@@ -38,29 +39,25 @@ has_push (x ∷ xs) s n = first_of (same x n) (has (xs ++ s ∷ []) n) (has xs n
 pub record SubOk (es : Events) (before : List Name) (n : Name) : Type 0 where
   pub is_one : is_atomic (lookup n es) ≡ true
   pub unfired : is_fired_atomic (lookup n es) ≡ false
-  pub homeless : holder es n ≡ None
+  pub unheld : holder es n ≡ None
   pub fresh : has before n ≡ false
-
-fired_none : (b : Bool) → cond b (Some reason.Fired) None ≡ None → b ≡ false
-fired_none true h = cc
-fired_none false h = refl
 
 allowed : (o : Option Event) (stood : Bool) (h : Option Name) → sub_refusal_of o stood h ≡ None → (is_atomic o ≡ true) × (is_fired_atomic o ≡ false) × (h ≡ None) × (stood ≡ false)
 allowed None stood h g = cc
 allowed (Some (composite k)) stood h g = cc
 allowed (Some (atomic a)) true h g = cc
 allowed (Some (atomic a)) false (Some c) g = cc
-allowed (Some (atomic a)) false None g = (refl, fired_none a.fired g, refl, refl)
+allowed (Some (atomic a)) false None g = (refl, not_when a.fired reason.Fired g, refl, refl)
 
 pub sub_ok : (es : Events) (before : List Name) (s : Name) → sub_refusal es before s ≡ None → SubOk es before s
-sub_ok es before s h = let a = allowed (lookup s es) (has before s) (holder es s) h in record { is_one = a.0; unfired = a.1; homeless = a.2; fresh = a.3 }
+sub_ok es before s h = let a = allowed (lookup s es) (has before s) (holder es s) h in record { is_one = a.0; unfired = a.1; unheld = a.2; fresh = a.3 }
 
 all_case : (t : Bool) (es : Events) (before ss : List Name) (s n : Name) → same s n ≡ t → SubOk es before s
     → (has ss n ≡ true → SubOk es (before ++ s ∷ []) n) → (t || has ss n) ≡ true → SubOk es before n
 all_case true es before ss s n e o ih h = subst (SubOk es before) (same_exact s n e) o
 all_case false es before ss s n e o ih h =
     let i = ih h in
-    record { is_one = i.is_one; unfired = i.unfired; homeless = i.homeless; fresh = (or_false (has before n) (same s n) (sym (has_push before s n) ∙ i.fresh)).0 }
+    record { is_one = i.is_one; unfired = i.unfired; unheld = i.unheld; fresh = (or_false (has before n) (same s n) (sym (has_push before s n) ∙ i.fresh)).0 }
 
 pub subs_all : (es : Events) (before ss : List Name) → subs_refusal es before ss ≡ None → (n : Name) → has ss n ≡ true → SubOk es before n
 subs_all es before [] r n h = cc
@@ -94,13 +91,8 @@ pub kept_in : (es fs : Events) (name : Name) (v : Event) (n : Name) → Puts es 
 kept_in es fs name v n u a = u.found n ∙ ap (λ t. cond t (Some v) (lookup n es)) (absent_apart es name n u.absent a)
 
 not_sub_by : (t : Bool) (es : Events) (subs : List Name) (n c : Name) → subs_refusal es [] subs ≡ None → holder es n ≡ Some c → has subs n ≡ t → has subs n ≡ false
-not_sub_by true es subs n c r h g = let x : holder es n ≡ None = (subs_all es [] subs r n g).homeless in cc
+not_sub_by true es subs n c r h g = let x : holder es n ≡ None = (subs_all es [] subs r n g).unheld in cc
 not_sub_by false es subs n c r h g = g
-
-queue_kept : (t : Bool) (es fs : Events) (k : Composite) (n : Name) → has k.subs n ≡ t → (has k.subs n ≡ true → lookup n fs ≡ lookup n es)
-    → (t && is_fired_atomic (lookup n es)) ≡ (t && is_fired_atomic (lookup n fs))
-queue_kept true es fs k n e f = sym (ap is_fired_atomic (f e))
-queue_kept false es fs k n e f = refl
 
 zero_queue : (t : Bool) (es fs : Events) (subs : List Name) (n : Name) → has subs n ≡ t → (has subs n ≡ true → is_fired_atomic (lookup n fs) ≡ false)
     → 0 ≡ one_if (t && is_fired_atomic (lookup n fs))
@@ -109,15 +101,15 @@ zero_queue false es fs subs n e f = refl
 
 module _ (p : Pool) (fs : Events) (name : Name) (all : Bool) (subs : List Name) (s : IsSoundPool p)
     (u : Puts p.events fs name (new_composite all subs)) (i : same name initial_name ≡ false) (short : length subs ≤ 8) (r : subs_refusal p.events [] subs ≡ None) where
-  homes : (n : Name) → holder fs n ≡ cond (has subs n) (Some name) (holder p.events n)
-  homes n = ap (λ x. holder x n) u.is_put ∙ home-put p.events name (new_composite all subs) n u.absent (λ h. (subs_all p.events [] subs r n h).homeless)
+  holders : (n : Name) → holder fs n ≡ cond (has subs n) (Some name) (holder p.events n)
+  holders n = ap (λ x. holder x n) u.is_put ∙ holder-put p.events name (new_composite all subs) n u.absent (λ h. (subs_all p.events [] subs r n h).unheld)
 
   old_one : (c : Name) (k : Composite) → IsSoundComposite p.events c k → IsSoundComposite fs c k
   old_one c k o = record {
     few = o.few;
     once = o.once;
     atomics = λ n h. ap is_atomic (kept_in p.events fs name _ n u (o.atomics n h)) ∙ o.atomics n h;
-    alone = λ n h. homes n ∙ ap (λ t. cond t (Some name) (holder p.events n)) (not_sub_by (has subs n) p.events subs n c r (o.alone n h) refl) ∙ o.alone n h;
+    alone = λ n h. holders n ∙ ap (λ t. cond t (Some name) (holder p.events n)) (not_sub_by (has subs n) p.events subs n c r (o.alone n h) refl) ∙ o.alone n h;
     queue = λ n. o.queue n ∙ ap one_if (queue_kept (has k.subs n) p.events fs k n refl (λ h. kept_in p.events fs name _ n u (o.atomics n h)));
   }
 
@@ -126,7 +118,7 @@ module _ (p : Pool) (fs : Events) (name : Name) (all : Bool) (subs : List Name) 
     few = omega (arith, short);
     once = subs_once p.events [] subs r;
     atomics = λ n h. let o = subs_all p.events [] subs r n h in ap is_atomic (kept_in p.events fs name _ n u o.is_one) ∙ o.is_one;
-    alone = λ n h. homes n ∙ ap (λ t. cond t (Some name) (holder p.events n)) h;
+    alone = λ n h. holders n ∙ ap (λ t. cond t (Some name) (holder p.events n)) h;
     queue = λ n. zero_queue (has subs n) p.events fs subs n refl
         (λ h. let o = subs_all p.events [] subs r n h in ap is_fired_atomic (kept_in p.events fs name _ n u o.is_one) ∙ o.unfired);
   }
@@ -142,12 +134,7 @@ module _ (p : Pool) (fs : Events) (name : Name) (all : Bool) (subs : List Name) 
       → EntriesFit n o (holder p.events n) many → EntriesFit n (cond t (Some (new_composite all subs)) o) (cond h (Some name) (holder p.events n)) many
   fit_by true h n o many f g = tt
   fit_by false false n o many f g = g
-  fit_by false true n o many f g = let a = f refl in adopt n o many a.0 a.1 (subst (λ x. EntriesFit n o x many) a.2 g)
-    where
-      adopt : (n : Name) (o : Option Event) (many : ℕ) → is_atomic o ≡ true → is_fired_atomic o ≡ false → EntriesFit n o None many → EntriesFit n o (Some name) many
-      adopt n None many a b f = cc
-      adopt n (Some (atomic e)) many a b f = f ∙ ap one_if b
-      adopt n (Some (composite k)) many a b f = tt
+  fit_by false true n o many f g = let a = f refl in adopt n name o many a.0 a.1 (subst (λ x. EntriesFit n o x many) a.2 g)
 
   pub composite_sound : (let q : Pool = record { events = fs; entries = p.entries; last = p.last } in IsSoundPool q)
   composite_sound = record {
@@ -159,12 +146,8 @@ module _ (p : Pool) (fs : Events) (name : Name) (all : Bool) (subs : List Name) 
     };
     entries = λ n.
         subst (λ x. EntriesFit n x (holder fs n) (entries_of n p.entries)) (sym (u.found n))
-        (subst (λ h. EntriesFit n (cond (same name n) (Some (new_composite all subs)) (lookup n p.events)) h (entries_of n p.entries)) (sym (homes n))
+        (subst (λ h. EntriesFit n (cond (same name n) (Some (new_composite all subs)) (lookup n p.events)) h (entries_of n p.entries)) (sym (holders n))
         (fit_by (same name n) (has subs n) n (lookup n p.events) (entries_of n p.entries)
-        (λ h. let o = subs_all p.events [] subs r n h in (o.is_one, o.unfired, o.homeless)) (s.entries n)));
+        (λ h. let o = subs_all p.events [] subs r n h in (o.is_one, o.unfired, o.unheld)) (s.entries n)));
     numbers = s.numbers;
   }
-
-pub not_when : (b : Bool) (r : Reason) → when b r ≡ None → b ≡ false
-not_when true r h = cc
-not_when false r h = refl

@@ -11,17 +11,17 @@ use Rattle.std.specs.Cmp.Lexicographic.{slice_cmp}
 use Rattle.std.proofs.lemmas.Map.Keys.{sorted_head, sorted_tail}
 use Rattle.bts_event.specs.declared.event.Event.{Event}
 use Rattle.bts_event.specs.declared.event.Event.TheVariants.{Atomic as atomic, Composite as composite}
-use Rattle.bts_event.proofs.Bits.{differs, find_composite_bit, fired_other, free_at}
+use Rattle.bts_event.proofs.Bits.{differs, fired_other, free_at, lookup_composite_bit, not_listed}
 use Rattle.bts_event.proofs.Defines.{Puts}
 use Rattle.bts_event.proofs.Drops.{Drops, kept_by, kept_out}
 use Rattle.bts_event.proofs.NewComposites.{kept_in}
-use Rattle.bts_event.proofs.Readings.{find-change, read-change}
+use Rattle.bts_event.proofs.Readings.{lookup-change, read-change}
 use Rattle.bts_event.proofs.Same.{same_refl, same_sym}
 use Rattle.bts_event.proofs.Subs.{after_fired, before}
 use Rattle.bts_event.specs.Composites.{Composite}
 use Rattle.bts_event.specs.Events.{Events, change, has, held_at, holder, holds, is_atomic, is_composite, is_fired_atomic, requeue, set_bit, value_of, with_bit}
 use Rattle.bts_event.specs.Pool.{Pool, entered, settled, settled_at, turns}
-use Rattle.bts_event.specs.Sound.{AreSoundEvents, IsSoundComposite}
+use Rattle.bts_event.specs.Sound.{AreSoundEvents}
 use Rattle.bts_names.specs.Named.{lookup}
 use Rattle.bts_names.specs.Names.{Name, same, same_exact}
 
@@ -142,15 +142,8 @@ turns_by es fs x h = turns_case (lookup x fs) (held_at fs x) (held_at es x) h
 
 -- ---- another composite than the one that changes
 
-pub alone_by : (t : Bool) (es : Events) (name c x : Name) (k : Composite) → IsSoundComposite es x k → holder es name ≡ Some c → same c x ≡ false → has k.subs name ≡ t → has k.subs name ≡ false
-alone_by true es name c x k s h d g =
-    let e : Some c ≡ Some x = sym h ∙ s.alone name g in
-    let f : c ≡ x = cc in
-    let r : same c x ≡ true = ap (same c) (sym f) ∙ same_refl c in cc
-alone_by false es name c x k s h d g = g
-
 pub other_there : (es : Events) (c x : Name) (f : Event → Event) → same c x ≡ false → lookup x (change es c f) ≡ lookup x es
-other_there es c x f d = find-change es c x f ∙ ap (λ t. cond t (option_map f (lookup x es)) (lookup x es)) d
+other_there es c x f d = lookup-change es c x f ∙ ap (λ t. cond t (option_map f (lookup x es)) (lookup x es)) d
 
 -- the event of c changes, and nothing's bit
 pub change_turns : (es : Events) (c x : Name) (f : Event → Event) → ((o : Option Event) → is_fired_atomic (option_map f o) ≡ is_fired_atomic o) → same c x ≡ false → turns es (change es c f) x ≡ false
@@ -162,9 +155,9 @@ change_turns es c x f h d =
 pub bit_turns : (es : Events) (name : Name) (b : Bool) (x : Name) → AreSoundEvents es → holder es name ≡ None → turns es (set_bit es name b) x ≡ false
 bit_turns es name b x s h =
     turns_by es (set_bit es name b) x
-    (λ k g. let f = find_composite_bit es name b x k g in
+    (λ k g. let f = lookup_composite_bit es name b x k g in
     held_same es (set_bit es name b) x k f g
-    (λ n m. ap is_fired_atomic (find-change es name n (with_bit b)) ∙ fired_other (same name n) b (lookup n es) (differs k.subs name n (free_at es name s h x k f) m)))
+    (λ n m. ap is_fired_atomic (lookup-change es name n (with_bit b)) ∙ fired_other (same name n) b (lookup n es) (differs k.subs name n (free_at es name s h x k f) m)))
 
 bit_stays : (t b : Bool) (k : Composite) (o : Option Event) → o ≡ Some (composite k) → cond t (option_map (with_bit b) o) o ≡ Some (composite k)
 bit_stays true b k o h = ap (option_map (with_bit b)) h
@@ -177,8 +170,8 @@ sub_turns es c g name b x s h d =
     let fs = set_bit (change es c (requeue g)) name b in
     turns_by es fs x
     (λ k i.
-    let f : lookup x es ≡ Some (composite k) = sym (other_there es c x (requeue g) d) ∙ find_composite_bit (change es c (requeue g)) name b x k i in
-    let free : has k.subs name ≡ false = alone_by (has k.subs name) es name c x k (s.composites x k f) h d refl in
+    let f : lookup x es ≡ Some (composite k) = sym (other_there es c x (requeue g) d) ∙ lookup_composite_bit (change es c (requeue g)) name b x k i in
+    let free : has k.subs name ≡ false = not_listed (has k.subs name) es name c x k (s.composites x k f) h d refl in
     held_same es fs x k f i
     (λ n m. after_fired es c g name b n ∙ ap (λ t. cond t (is_atomic (lookup n es) && b) (is_fired_atomic (lookup n es))) (differs k.subs name n free m)))
 

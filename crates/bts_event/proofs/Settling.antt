@@ -9,17 +9,18 @@ use Rattle.bts_event.specs.declared.event.Event.{Event}
 use Rattle.bts_event.specs.declared.event.Event.TheVariants.{Atomic as atomic, Composite as composite}
 use Rattle.bts_event.specs.declared.event.Trigger.{Trigger}
 use Rattle.bts_names.specs.declared.reply.Reason.TheVariants as reason
-use Rattle.bts_event.proofs.Bits.{cleared_sound, differs, fire_allowed, fired_sound, free_at}
+use Rattle.bts_event.proofs.Bits.{cleared_sound, differs, fire_allowed, fired_sound, free_at, not_listed, not_when}
 use Rattle.bts_event.proofs.Defines.{Puts, defined_sound, none_from, puts}
 use Rattle.bts_event.proofs.Drops.{composite_apart, deleted_from_sound, drops, kept_by, kept_out, sub_atomic}
 use Rattle.bts_event.proofs.Joins.{add_sound, join_fired}
 use Rattle.bts_event.proofs.Leaves.{leave_fired, left_atomic, may_leave, removed_composite, removed_step, sub_left, sub_left_sound}
-use Rattle.bts_event.proofs.NewComposites.{composite_sound, kept_in, not_when, or_none, sub_ok, subs_all}
-use Rattle.bts_event.proofs.OneTurns.{alone_by, bit_turns, calm_holds, change_turns, drop_held, held_same, holds_by, other_there, push_kind, put_held, settled_none, settled_one, sub_turns, turns_by}
+use Rattle.bts_event.proofs.NewComposites.{composite_sound, kept_in, or_none, sub_ok, subs_all}
+use Rattle.bts_event.proofs.OneTurns.{bit_turns, calm_holds, change_turns, drop_held, held_same, holds_by, other_there, push_kind, put_held, settled_none, settled_one, sub_turns, turns_by}
 use Rattle.bts_event.proofs.Orders.{IsRising, rising_without}
-use Rattle.bts_event.proofs.Readings.{find-change_here, keys-change, read-change}
+use Rattle.bts_event.proofs.Readings.{keys-change, lookup-change_here, read-change}
 use Rattle.bts_event.proofs.SubCalls.{after_composite, but_fits, fired_sub_sound, owner_composite, sub_bit_sound, sub_fired}
-use Rattle.bts_event.proofs.Subs.{owned}
+use Rattle.bts_event.proofs.Subs.{before, owned}
+use Rattle.bts_event.specs.Calls.{after}
 use Rattle.bts_event.specs.Composites.{Composite}
 use Rattle.bts_event.specs.Events.{Events, change, except, has, held_at, holder, holds, is_atomic, is_composite, is_fired_atomic, new_atomic, new_composite, set_bit, value_of, with_bit, with_queued, with_sub, without_queued, without_sub}
 use Rattle.bts_event.specs.Pool.{Pool, defined, deleted, deleted_from, dropped, fired, parted, placed, removed, removed_at, settled, settled_at, subevent_added, subevent_removed, turns, unfired, with_fired, with_unfired, withdrawn}
@@ -113,7 +114,7 @@ deleted_within p n c s h =
     (λ b f.
     let i : lookup x es ≡ Some (composite b) = (kept_by (same n x) (lookup x es) b (sym (d.found x) ∙ f)).1 in
     let j : lookup x p.events ≡ Some (composite b) = sym (other_there p.events c x (without_sub n) e) ∙ i in
-    let free : has b.subs n ≡ false = alone_by (has b.subs n) p.events n c x b (s.events.composites x b j) h e refl in
+    let free : has b.subs n ≡ false = not_listed (has b.subs n) p.events n c x b (s.events.composites x b j) h e refl in
     drop_held es (without n es) n x b d f (λ m w. differs b.subs n m free w)
     ∙ held_same p.events es x b j i (λ m w. read-change is_fired_atomic p.events c m (without_sub n) (leave_fired n))))
 
@@ -127,11 +128,7 @@ deleted_at p n s = deleted_by p n (holder p.events n) refl s
 calm_by : (es : Events) (b : Composite) (o : Option Event) → o ≡ Some (composite b) → delete_refusal_of es o ≡ None → list_any (λ s. is_fired_atomic (lookup s es)) b.subs ≡ false
 calm_by es b None e r = cc
 calm_by es b (Some (atomic a)) e r = cc
-calm_by es b (Some (composite k)) e r = let g : k ≡ b = cc in subst (λ x. list_any (λ s. is_fired_atomic (lookup s es)) x.subs ≡ false) g (calm (list_any (λ s. is_fired_atomic (lookup s es)) k.subs) r)
-  where
-    calm : (t : Bool) → cond t (Some reason.Fired) None ≡ None → t ≡ false
-    calm true h = cc
-    calm false h = refl
+calm_by es b (Some (composite k)) e r = let g : k ≡ b = cc in subst (λ x. list_any (λ s. is_fired_atomic (lookup s es)) x.subs ≡ false) g (not_when (list_any (λ s. is_fired_atomic (lookup s es)) k.subs) reason.Fired r)
 
 missing_not : (es : Events) (o : Option Event) → delete_refusal_of es o ≡ None → o ≡ None → ⊥
 missing_not es None r e = cc
@@ -194,7 +191,7 @@ join_turns : (es : Events) (c s : Name) (b : Composite) → lookup c es ≡ Some
 join_turns es c s b e f =
     let fs = change es c (with_sub s) in
     let k : Composite = record { all = b.all; subs = b.subs ++ s ∷ []; queued = b.queued } in
-    let here : lookup c fs ≡ Some (composite k) = find-change_here es c (with_sub s) ∙ ap (option_map (with_sub s)) e in
+    let here : lookup c fs ≡ Some (composite k) = lookup-change_here es c (with_sub s) ∙ ap (option_map (with_sub s)) e in
     let after : held_at fs c ≡ holds es k =
     ap (value_of fs) here ∙ holds_by (λ n. is_fired_atomic (lookup n fs)) (λ n. is_fired_atomic (lookup n es)) k.all k.subs (λ n m. read-change is_fired_atomic es c n (with_sub s) (join_fired s)) in
     let before : held_at es c ≡ holds es b = ap (value_of es) e in

@@ -5,9 +5,9 @@ use Rattle.bts_event.specs.declared.event.Event.{Event}
 use Rattle.bts_event.specs.declared.event.Event.TheVariants.{Atomic as atomic, Composite as composite}
 use Rattle.bts_names.specs.declared.state.EventKind.{EventKind}
 use Rattle.bts_event.proofs.Bits.{drop_sum, entries_push, not_both, rises_push, same_left, zero_if}
-use Rattle.bts_event.proofs.Readings.{find-change, read-change}
+use Rattle.bts_event.proofs.Readings.{lookup-change, read-change}
 use Rattle.bts_event.proofs.Same.{same_refl, same_sym}
-use Rattle.bts_event.proofs.Subs.{Owns, QueueFits, after_home, owned, requeued_sound}
+use Rattle.bts_event.proofs.Subs.{Owns, QueueFits, after_holder, owned, requeued_sound}
 use Rattle.bts_event.specs.Composites.{Composite}
 use Rattle.bts_event.specs.Events.{Events, change, entry_kind, except, has, held_at, holder, is_atomic, is_composite, is_fired_atomic, requeue, rest_of, set_bit, with_bit, with_queued}
 use Rattle.bts_event.specs.Pool.{Pool, entered, first_queued, settled_at, subevent_of}
@@ -86,10 +86,10 @@ sub_bit_sound p c g name b s h q = record {
   events = requeued_sound p.events c g name b s.events h q;
   entries = λ n.
       let es = change p.events c (requeue g) in
-      subst (λ x. EntriesFit n (lookup n (set_bit es name b)) x (entries_of n p.entries)) (sym (after_home p.events c g name b n))
-      (subst (λ o. EntriesFit n o (holder p.events n) (entries_of n p.entries)) (sym (find-change es name n (with_bit b)))
+      subst (λ x. EntriesFit n (lookup n (set_bit es name b)) x (entries_of n p.entries)) (sym (after_holder p.events c g name b n))
+      (subst (λ o. EntriesFit n o (holder p.events n) (entries_of n p.entries)) (sym (lookup-change es name n (with_bit b)))
       (sub_fit (same name n) b p.events name n c (lookup n es) (entries_of n p.entries) refl h
-      (subst (λ o. EntriesFit n o (holder p.events n) (entries_of n p.entries)) (sym (find-change p.events c n (requeue g)))
+      (subst (λ o. EntriesFit n o (holder p.events n) (entries_of n p.entries)) (sym (lookup-change p.events c n (requeue g)))
       (fit_queue n g (same c n) (lookup n p.events) (holder p.events n) (entries_of n p.entries) (s.entries n)))));
   numbers = s.numbers;
 }
@@ -161,9 +161,9 @@ queued_listed true f many m = refl
 queued_listed false f many m = let z : 1 + many ≡ 0 = m in absurd (omega arith)
 
 -- what stands in a composite's queue is its sub-event
-pub queued_home : (es : Events) (c name : Name) (body : Composite) (ss : List Name) → AreSoundEvents es → lookup c es ≡ Some (composite body) → body.queued ≡ name ∷ ss
+pub queued_holder : (es : Events) (c name : Name) (body : Composite) (ss : List Name) → AreSoundEvents es → lookup c es ≡ Some (composite body) → body.queued ≡ name ∷ ss
     → holder es name ≡ Some c
-queued_home es c name body ss s f q =
+queued_holder es c name body ss s f q =
     let sc = s.composites c body f in
     sc.alone name
     (queued_listed (has body.subs name) (is_fired_atomic (lookup name es)) (times name ss)
@@ -208,7 +208,7 @@ pub sub_retrieved_sound : (p : Pool) (c s : Name) (k : EventKind) → IsSoundPoo
     → (let r : Pool = record { events = set_bit (change p.events c (requeue rest_of)) s false; entries = p.entries; last = p.last } in IsSoundPool r)
 sub_retrieved_sound p c s k o g =
     let w = waits p.events (lookup c p.events) s k g in
-    sub_bit_sound p c rest_of s false o (queued_home p.events c s w.body w.rest o.events w.found w.queued)
+    sub_bit_sound p c rest_of s false o (queued_holder p.events c s w.body w.rest o.events w.found w.queued)
     (rest_fits p.events c s w.body w.rest o.events w.found w.queued)
 
 -- ---- the system event

@@ -10,8 +10,8 @@ use Rattle.std.specs.Cmp.Lexicographic.{slice_cmp}
 use Rattle.std.proofs.lemmas.Map.Keys.{sorted_head, sorted_tail}
 use Rattle.bts_event.specs.declared.event.Event.{Event}
 use Rattle.bts_event.specs.declared.event.Event.TheVariants.{Atomic as atomic, Composite as composite}
-use Rattle.bts_event.proofs.Bits.{bit_atomic, bit_lists, differs, find_composite_bit, find_none_change}
-use Rattle.bts_event.proofs.Readings.{find-change, home-change, keys-change, length-change, read-change}
+use Rattle.bts_event.proofs.Bits.{bit_atomic, bit_lists, differs, lookup_composite_bit, lookup_none_change, not_listed}
+use Rattle.bts_event.proofs.Readings.{holder-change, keys-change, length-change, lookup-change, read-change}
 use Rattle.bts_event.proofs.Same.{same_refl, same_sym}
 use Rattle.bts_event.specs.Composites.{Composite}
 use Rattle.bts_event.specs.Events.{Events, change, has, holder, is_atomic, is_fired_atomic, lists, requeue, set_bit, with_bit}
@@ -108,8 +108,8 @@ after es c g name b = set_bit (change es c (requeue g)) name b
 after_atomic : (es : Events) (c : Name) (g : List Name → List Name) (name : Name) (b : Bool) (n : Name) → is_atomic (lookup n (after es c g name b)) ≡ is_atomic (lookup n es)
 after_atomic es c g name b n = read-change is_atomic (change es c (requeue g)) name n (with_bit b) (bit_atomic b) ∙ read-change is_atomic es c n (requeue g) (queue_atomic g)
 
-pub after_home : (es : Events) (c : Name) (g : List Name → List Name) (name : Name) (b : Bool) (n : Name) → holder (set_bit (change es c (requeue g)) name b) n ≡ holder es n
-after_home es c g name b n = home-change (change es c (requeue g)) name n (with_bit b) (bit_lists b n) ∙ home-change es c n (requeue g) (queue_lists g n)
+pub after_holder : (es : Events) (c : Name) (g : List Name → List Name) (name : Name) (b : Bool) (n : Name) → holder (set_bit (change es c (requeue g)) name b) n ≡ holder es n
+after_holder es c g name b n = holder-change (change es c (requeue g)) name n (with_bit b) (bit_lists b n) ∙ holder-change es c n (requeue g) (queue_lists g n)
 
 fired_after : (t b : Bool) (o : Option Event) → is_fired_atomic (cond t (option_map (with_bit b) o) o) ≡ cond t (is_atomic o && b) (is_fired_atomic o)
 fired_after true b None = refl
@@ -121,7 +121,7 @@ fired_after false b o = refl
 pub after_fired : (es : Events) (c : Name) (g : List Name → List Name) (name : Name) (b : Bool) (n : Name)
     → is_fired_atomic (lookup n (set_bit (change es c (requeue g)) name b)) ≡ cond (same name n) (is_atomic (lookup n es) && b) (is_fired_atomic (lookup n es))
 after_fired es c g name b n =
-    ap is_fired_atomic (find-change (change es c (requeue g)) name n (with_bit b))
+    ap is_fired_atomic (lookup-change (change es c (requeue g)) name n (with_bit b))
     ∙ fired_after (same name n) b (lookup n (change es c (requeue g)))
     ∙ ap (λ x. cond (same name n) (x && b) (is_fired_atomic (lookup n (change es c (requeue g))))) (read-change is_atomic es c n (requeue g) (queue_atomic g))
     ∙ ap (λ x. cond (same name n) (is_atomic (lookup n es) && b) x) (read-change is_fired_atomic es c n (requeue g) (queue_fired g))
@@ -137,19 +137,12 @@ other_queue : (h : Bool) (es : Events) (name : Name) (b : Bool) (names : List Na
 other_queue true es name b names n h g = sym (ap (λ t. cond t (is_atomic (lookup n es) && b) (is_fired_atomic (lookup n es))) (differs names name n g h))
 other_queue false es name b names n h g = refl
 
-not_home : (t : Bool) (es : Events) (name c x : Name) (k : Composite) → IsSoundComposite es x k → holder es name ≡ Some c → same c x ≡ false → has k.subs name ≡ t → has k.subs name ≡ false
-not_home true es name c x k s h d g =
-    let e : Some c ≡ Some x = sym h ∙ s.alone name g in
-    let f : c ≡ x = cc in
-    let r : same c x ≡ true = ap (same c) (sym f) ∙ same_refl c in cc
-not_home false es name c x k s h d g = g
-
 queue_then : (t : Bool) (es : Events) (c : Name) (g : List Name → List Name) (name : Name) (b : Bool) (x : Name) (body : Composite) (n : Name)
     → same c x ≡ t → IsSoundComposite es x body → lookup x es ≡ Some (composite body) → holder es name ≡ Some c → QueueFits es c g name b
     → times n (cond t (g body.queued) body.queued) ≡ one_if (has body.subs n && cond (same name n) (is_atomic (lookup n es) && b) (is_fired_atomic (lookup n es)))
 queue_then true es c g name b x body n e s f h q = q body (ap (λ m. lookup m es) (same_exact c x e) ∙ f) n
 queue_then false es c g name b x body n e s f h q =
-    s.queue n ∙ ap one_if (other_queue (has body.subs n) es name b body.subs n refl (not_home (has body.subs name) es name c x body s h e refl))
+    s.queue n ∙ ap one_if (other_queue (has body.subs n) es name b body.subs n refl (not_listed (has body.subs name) es name c x body s h e refl))
 
 composite_then : (es : Events) (c : Name) (g : List Name → List Name) (name : Name) (b : Bool) (x : Name) (k : Composite)
     → AreSoundEvents es → holder es name ≡ Some c → QueueFits es c g name b → Before g (same c x) (lookup x es) k → IsSoundComposite (after es c g name b) x k
@@ -160,7 +153,7 @@ composite_then es c g name b x k s h q o =
       few = subst (λ names. length names ≤ 32) (sym o.subs) sc.few;
       once = λ n. ap (times n) o.subs ∙ sc.once n ∙ sym (ap one_if (subs n));
       atomics = λ n i. after_atomic es c g name b n ∙ sc.atomics n (sym (subs n) ∙ i);
-      alone = λ n i. after_home es c g name b n ∙ sc.alone n (sym (subs n) ∙ i);
+      alone = λ n i. after_holder es c g name b n ∙ sc.alone n (sym (subs n) ∙ i);
       queue = λ n.
           ap (times n) o.queued
           ∙ queue_then (same c x) es c g name b x o.body n refl sc o.found h q
@@ -173,8 +166,8 @@ pub requeued_sound : (es : Events) (c : Name) (g : List Name → List Name) (nam
 requeued_sound es c g name b s h q = record {
   ordered = subst (λ ks. IsStrictlySortedBy (slice_cmp nat_cmp) ks) (sym (keys-change (change es c (requeue g)) name (with_bit b) ∙ keys-change es c (requeue g))) s.ordered;
   few = subst (λ n. n ≤ 256) (sym (length-change (change es c (requeue g)) name (with_bit b) ∙ length-change es c (requeue g))) s.few;
-  unnamed = find_none_change (change es c (requeue g)) name initial_name (with_bit b) (find_none_change es c initial_name (requeue g) s.unnamed);
+  unnamed = lookup_none_change (change es c (requeue g)) name initial_name (with_bit b) (lookup_none_change es c initial_name (requeue g) s.unnamed);
   composites = λ x k f.
       composite_then es c g name b x k s h q
-      (before g (same c x) (lookup x es) k (sym (find-change es c x (requeue g)) ∙ find_composite_bit (change es c (requeue g)) name b x k f));
+      (before g (same c x) (lookup x es) k (sym (lookup-change es c x (requeue g)) ∙ lookup_composite_bit (change es c (requeue g)) name b x k f));
 }

@@ -72,7 +72,9 @@ impl Composite {
     }
 
     pub(crate) fn push_queued(&mut self, name: Name16) -> Result<(), NoMemory>
-        ensures ok { OnOk result (self.new ≡ record { all = self.old.all; subs = self.old.subs; queued = self.old.queued ++ name ∷ [] }) }
+        ensures ok { OnOk result
+            (self.new
+            ≡ record { all = self.old.all; subs = self.old.subs; queued = self.old.queued ++ name ∷ [] }) }
         ensures err { OnErr result (self.new ≡ self.old) }
     {
         self.queued.push(name)?;
@@ -80,7 +82,9 @@ impl Composite {
     }
 
     pub(crate) fn push_sub(&mut self, name: Name16) -> Result<(), NoMemory>
-        ensures ok { OnOk result (self.new ≡ record { all = self.old.all; subs = self.old.subs ++ name ∷ []; queued = self.old.queued }) }
+        ensures ok { OnOk result
+            (self.new
+            ≡ record { all = self.old.all; subs = self.old.subs ++ name ∷ []; queued = self.old.queued }) }
         ensures err { OnErr result (self.new ≡ self.old) }
     {
         self.subs.push(name)?;
@@ -88,19 +92,22 @@ impl Composite {
     }
 
     pub(crate) fn drop_first(&mut self)
-        ensures { self.new ≡ record { all = self.old.all; subs = self.old.subs; queued = events.rest_of self.old.queued } }
+        ensures { self.new
+            ≡ record { all = self.old.all; subs = self.old.subs; queued = events.rest_of self.old.queued } }
     {
         drop_first(&mut self.queued);
     }
 
     pub(crate) fn forget_queued(&mut self, name: &Name16)
-        ensures { self.new ≡ record { all = self.old.all; subs = self.old.subs; queued = events.except self.old.queued name.now } }
+        ensures { self.new
+            ≡ record { all = self.old.all; subs = self.old.subs; queued = events.except self.old.queued name.now } }
     {
         forget(&mut self.queued, name);
     }
 
     pub(crate) fn forget_sub(&mut self, name: &Name16)
-        ensures { self.new ≡ record { all = self.old.all; subs = events.except self.old.subs name.now; queued = events.except self.old.queued name.now } }
+        ensures { self.new
+            ≡ record { all = self.old.all; subs = events.except self.old.subs name.now; queued = events.except self.old.queued name.now } }
     {
         forget(&mut self.subs, name);
         forget(&mut self.queued, name);

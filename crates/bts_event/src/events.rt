@@ -167,7 +167,8 @@ pub(crate) fn push_queued(
     c: &Name16,
     name: Name16,
 ) -> Result<(), NoMemory>
-    ensures ok { OnOk result (map.new.entries ≡ events.change map.old.entries c.now (events.with_queued name)) }
+    ensures ok { OnOk result
+        (map.new.entries ≡ events.change map.old.entries c.now (events.with_queued name)) }
     ensures err { OnErr result (map.new.entries ≡ map.old.entries) }
 {
     match map.get_mut(c) {
@@ -181,7 +182,8 @@ pub(crate) fn push_sub(
     c: &Name16,
     name: Name16,
 ) -> Result<(), NoMemory>
-    ensures ok { OnOk result (map.new.entries ≡ events.change map.old.entries c.now (events.with_sub name)) }
+    ensures ok { OnOk result
+        (map.new.entries ≡ events.change map.old.entries c.now (events.with_sub name)) }
     ensures err { OnErr result (map.new.entries ≡ map.old.entries) }
 {
     match map.get_mut(c) {

@@ -63,7 +63,8 @@ impl EventPool {
         last: u64,
     ) -> Result<Self, NoMemory>
         requires { IsSoundPool (record { events = events.items; entries = entries.items; last = last }) }
-        ensures { IfOk result (λ pool. pool ≡ record { events = events.items; entries = entries.items; last = last }) }
+        ensures { IfOk result
+            (λ pool. pool ≡ record { events = events.items; entries = entries.items; last = last }) }
     {
         let events = map_of(alloc, events)?;
         Ok(EventPool {
@@ -98,7 +99,8 @@ impl EventPool {
     pub fn define_input(&mut self, name: Name16) -> Result<(), PoolError>
         requires { same name initial_name ≡ false }
         ensures why { refusals.Answers result (refusals.define_refusal name self.old.events) }
-        ensures ok { OnOk result (self.new ≡ pool.defined name (events.new_atomic Trigger.Input) self.old) }
+        ensures ok { OnOk result
+            (self.new ≡ pool.defined name (events.new_atomic Trigger.Input) self.old) }
         ensures err { OnErr result (self.new ≡ self.old) }
     {
         self.define(name, Trigger::Input)
@@ -108,7 +110,8 @@ impl EventPool {
     pub fn define_completion(&mut self, name: Name16, child: u32) -> Result<(), PoolError>
         requires { same name initial_name ≡ false }
         ensures why { refusals.Answers result (refusals.define_refusal name self.old.events) }
-        ensures ok { OnOk result (self.new ≡ pool.defined name (events.new_atomic (Trigger.Completion child)) self.old) }
+        ensures ok { OnOk result
+            (self.new ≡ pool.defined name (events.new_atomic (Trigger.Completion child)) self.old) }
         ensures err { OnErr result (self.new ≡ self.old) }
     {
         self.define(name, Trigger::Completion(child))
@@ -118,7 +121,8 @@ impl EventPool {
     pub fn define_timer_event(&mut self, name: Name16, timer: Name16) -> Result<(), PoolError>
         requires { same name initial_name ≡ false }
         ensures why { refusals.Answers result (refusals.define_refusal name self.old.events) }
-        ensures ok { OnOk result (self.new ≡ pool.defined name (events.new_atomic (Trigger.Timer timer)) self.old) }
+        ensures ok { OnOk result
+            (self.new ≡ pool.defined name (events.new_atomic (Trigger.Timer timer)) self.old) }
         ensures err { OnErr result (self.new ≡ self.old) }
     {
         self.define(name, Trigger::Timer(timer))
@@ -154,7 +158,8 @@ impl EventPool {
         requires few { length subs.now ≤ 8 }
         requires named { same name initial_name ≡ false }
         ensures why { refusals.Answers result (refusals.composite_refusal name subs.now self.old.events) }
-        ensures ok { OnOk result (self.new ≡ pool.defined name (events.new_composite all subs.now) self.old) }
+        ensures ok { OnOk result
+            (self.new ≡ pool.defined name (events.new_composite all subs.now) self.old) }
         ensures err { OnErr result (self.new ≡ self.old) }
     {
         if let Some(reason) = refuses_composite(&self.events, &name, subs) {
@@ -352,6 +357,26 @@ impl EventPool {
         match self.events.get(&name) {
             Some(event) => Some(event.kind()),
             None => None,
+        }
+    }
+
+    /// Whether an atomic event has this name.
+    pub fn is_atomic(&self, name: Name16) -> bool
+        ensures { result ≡ events.is_atomic (lookup name self.now.events) }
+    {
+        match self.events.get(&name) {
+            Some(Event::Atomic(_)) => true,
+            _ => false,
+        }
+    }
+
+    /// Whether a composite has this name.
+    pub fn is_composite(&self, name: Name16) -> bool
+        ensures { result ≡ events.is_composite (lookup name self.now.events) }
+    {
+        match self.events.get(&name) {
+            Some(Event::Composite(_)) => true,
+            _ => false,
         }
     }
 

@@ -17,7 +17,8 @@ pub struct Entry {
 pub(crate) fn enter(queue: &mut VecDeque<Entry>, last: &mut u64, name: Name16)
     requires room { deque_len queue.old < deque_capacity queue.old }
     requires below { last.old < 2 ^ 64 - 1 }
-    ensures queue { queue.new.items ≡ queue.old.items ++ record { name = name; number = last.old + 1 } ∷ [] }
+    ensures queue { queue.new.items
+        ≡ queue.old.items ++ record { name = name; number = last.old + 1 } ∷ [] }
     ensures last { last.new ≡ last.old + 1 }
 {
     let number = *last + 1;

@@ -43,7 +43,8 @@ fn refuses_sub(map: &BTreeMap<Name16, Event>, earlier: &[Name16], sub: &Name16) 
 }
 
 fn refuses_atomic(fired: bool, stood: bool, owned: bool) -> Option<Reason>
-    ensures { result ≡ (if stood || owned then Some Reason.IsSubevent else (if fired then Some Reason.Fired else None)) }
+    ensures { result
+        ≡ (if stood || owned then Some Reason.IsSubevent else (if fired then Some Reason.Fired else None)) }
 {
     if stood || owned {
         Some(Reason::IsSubevent)
@@ -102,7 +103,8 @@ pub(crate) fn refuses_add(
 }
 
 fn refuses_more(c: &Composite) -> Option<Reason>
-    ensures { result ≡ refusals.when (refusals.is_full_composite (Some (Event.Composite c.now))) Reason.Limit }
+    ensures { result
+        ≡ refusals.when (refusals.is_full_composite (Some (Event.Composite c.now))) Reason.Limit }
 {
     if c.subevents().len() >= SUBEVENT_LIMIT {
         return Some(Reason::Limit);
@@ -125,7 +127,8 @@ pub(crate) fn refuses_leave(
 }
 
 fn refuses_listed(listed: bool, fired: bool) -> Option<Reason>
-    ensures { result ≡ (if listed then (if fired then Some Reason.Fired else None) else Some Reason.NotSubevent) }
+    ensures { result
+        ≡ (if listed then (if fired then Some Reason.Fired else None) else Some Reason.NotSubevent) }
 {
     if !listed {
         Some(Reason::NotSubevent)

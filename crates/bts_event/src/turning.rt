@@ -1,10 +1,6 @@
 // The one composite that a change can turn: it makes an entry where it holds now and didn't before.
 ghost use Rattle.std.specs.Prelude.{◌≡◌, ◌<◌, ◌-◌, ◌^◌};
 ghost use Rattle.std.specs.VecDeque.{deque_len, deque_capacity};
-ghost use Rattle.std.specs.List.Sorted.{IsStrictlySortedBy};
-ghost use Rattle.std.specs.Map.{keys_of};
-ghost use Rattle.std.specs.Ordering.{nat_cmp};
-ghost use Rattle.std.specs.Cmp.Lexicographic.{slice_cmp};
 ghost use Rattle.bts_event.specs.Events as events;
 ghost use Rattle.bts_event.specs.Pool as pool;
 
@@ -25,7 +21,9 @@ pub(crate) fn settle(
 )
     requires room { deque_len queue.old < deque_capacity queue.old }
     requires below { last.old < 2 ^ 64 - 1 }
-    ensures { pool.settled_at before c (record { events = map.now.entries; entries = queue.old.items; last = last.old }) ≡ record { events = map.now.entries; entries = queue.new.items; last = last.new } }
+    ensures { pool.settled_at before c
+        (record { events = map.now.entries; entries = queue.old.items; last = last.old })
+        ≡ record { events = map.now.entries; entries = queue.new.items; last = last.new } }
 {
     if !before && held_at(map, &c) {
         enter(queue, last, c);
@@ -41,8 +39,9 @@ pub(crate) fn erase(
 )
     requires room { deque_len queue.old < deque_capacity queue.old }
     requires below { last.old < 2 ^ 64 - 1 }
-    ensures after { pool.deleted_from (events.holder map.old.entries name.now) name.now (record { events = map.old.entries; entries = queue.old.items; last = last.old }) ≡ record { events = map.new.entries; entries = queue.new.items; last = last.new } }
-    ensures ordered { IsStrictlySortedBy (slice_cmp nat_cmp) (keys_of map.new.entries) }
+    ensures { pool.deleted_from (events.holder map.old.entries name.now) name.now
+        (record { events = map.old.entries; entries = queue.old.items; last = last.old })
+        ≡ record { events = map.new.entries; entries = queue.new.items; last = last.new } }
 {
     match holder(map, name) {
         None => {

@@ -8,6 +8,8 @@ use Rattle.bts_event.specs.Events as events
 use Rattle.bts_event.specs.Events as events
 use Rattle.bts_event.specs.Events as events
 use Rattle.bts_event.specs.Events as events
+use Rattle.bts_event.specs.Events as events
+use Rattle.bts_event.specs.Events as events
 
 -- what is left has the answer
 abbrev pub invariant-loop-name : goal.invariant-loop-name

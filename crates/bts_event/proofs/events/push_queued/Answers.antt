@@ -14,6 +14,8 @@ use Rattle.bts_event.specs.Events as events
 use Rattle.bts_event.specs.Events as events
 use Rattle.bts_event.specs.Events as events
 use Rattle.bts_event.specs.Events as events
+use Rattle.bts_event.specs.Events as events
+use Rattle.bts_event.specs.Events as events
 use Rattle.bts_event.proofs.Change.{OnErr_both, OnOk_both, change-found, change-none, written_same}
 use Rattle.bts_names.specs.Named.{lookup}
 

@@ -14,6 +14,8 @@ use Rattle.bts_event.specs.Events as events
 use Rattle.bts_event.specs.Events as events
 use Rattle.bts_event.specs.Events as events
 use Rattle.bts_event.specs.Events as events
+use Rattle.bts_event.specs.Events as events
+use Rattle.bts_event.specs.Events as events
 use Rattle.bts_event.proofs.Change.{change-found, change-none}
 use Rattle.bts_names.specs.Named.{lookup}
 
