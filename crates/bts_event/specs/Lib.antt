@@ -1,0 +1,6 @@
+pub mod Calls
+pub mod Composites
+pub mod Events
+pub mod Pool
+pub mod Refusals
+pub mod Sound
