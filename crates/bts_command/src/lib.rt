@@ -4,7 +4,7 @@
 mod command;
 mod ended;
 
-pub use command::{Call, Calls, Command, Commands, Spot, Target};
+pub use command::{Call, Calls, Command, Commands, Due, Names, Spot, Target};
 pub use ended::{End, Ended, History, UnitKind};
 
 #[cfg(test)]

@@ -9,7 +9,7 @@ use Rattle.bts_names.specs.Names.{Bytes}
 use Rattle.bts_names.specs.Grammar.{is_name_within, is_word_within, is_name_byte, is_between, is_system}
 use Rattle.bts_names.specs.declared.key.Key.{Key}
 use Rattle.bts_command.specs.declared.command.Command.{Command}
-use Rattle.bts_command.specs.declared.command.Command.TheVariants.{DefineProcess, PutContainer, GetContainer, Return}
+use Rattle.bts_command.specs.declared.command.Command.TheVariants.{DefineProcess, PutContainer, GetContainer}
 use Rattle.bts_command.specs.declared.command.Spot.{Spot}
 use Rattle.bts_command.specs.declared.command.Spot.TheVariants.{Own, Process, Of}
 use Rattle.bts_command.specs.declared.command.Target.TheVariants.{Activity, AcqProcess, AcqActivity}
@@ -120,9 +120,7 @@ define_takes (DefineProcess transid program) good =
       before_takes (codes ")") program,
       name_takes 8 program names.1,
     ) refl
-define_takes (PutContainer container spot from) good = cc
-define_takes (GetContainer container spot) good = cc
-define_takes (Return end_activity) good = cc
+define_takes _ good = cc
 
 -- PUT CONTAINER
 put_found : (line : Bytes) (c : Command) → put_of line ≡ Some c → (is_use c ≡ true) × (line ≡ command_text c)
@@ -206,8 +204,7 @@ use_takes (GetContainer container spot) good =
       name_takes 16 container name.0,
       spot_is spot name.1,
     ) refl
-use_takes (DefineProcess transid program) good = cc
-use_takes (Return end_activity) good = cc
+use_takes _ good = cc
 
 -- no line holds a line feed
 pub key_whole : (key : Key) → is_key key ≡ true → is_without 10 (key_text key) ≡ true
@@ -222,9 +219,7 @@ define_whole (DefineProcess transid program) good =
     ap (is_without 10) (define_parts transid program) ∙ list_all-append _ transid (codes ") PROGRAM(" ++ (program ++ codes ")"))
     ∙ and_from _ _ (name_without 4 10 line_feed_apart transid names.0)
     (list_all-append _ program (codes ")") ∙ and_from _ _ (name_without 8 10 line_feed_apart program names.1) refl)
-define_whole (PutContainer container spot from) good = cc
-define_whole (GetContainer container spot) good = cc
-define_whole (Return end_activity) good = cc
+define_whole _ good = cc
 
 pub use_whole : (c : Command) → is_use c ≡ true → is_without 10 (command_text c) ≡ true
 use_whole (PutContainer container spot from) good =
@@ -236,5 +231,4 @@ use_whole (PutContainer container spot from) good =
 use_whole (GetContainer container spot) good =
     let name = and_parts (is_name_within 16 container) (is_acquired spot) good in
     ap (is_without 10) (get_parts container spot) ∙ list_all-append _ container (codes ") ACQPROCESS") ∙ and_from _ _ (name_without 16 10 line_feed_apart container name.0) refl
-use_whole (DefineProcess transid program) good = cc
-use_whole (Return end_activity) good = cc
+use_whole _ good = cc

@@ -7,7 +7,7 @@ use Rattle.std.proofs.lemmas.Bool.{and_parts, and_from, eqb-true}
 use Rattle.std.proofs.lemmas.Slice.Eq.{bytes_eq-Decides}
 use Rattle.bts_names.specs.Names.{Bytes}
 use Rattle.bts_command.specs.declared.command.Command.{Command}
-use Rattle.bts_command.specs.declared.command.Command.TheVariants.{DefineProcess, PutContainer, GetContainer, Return}
+use Rattle.bts_command.specs.declared.command.Command.TheVariants.{PutContainer, GetContainer}
 use Rattle.bts_tool.specs.RequestText.{command_text, end_text, text_of_lines, is_short, is_use}
 use Rattle.bts_tool.specs.Reading.{◌>>=◌, line_of, use_of, uses_in}
 use Rattle.bts_tool.proofs.Pieces.{some_then, some_if, line_found, line_takes}
@@ -76,8 +76,7 @@ uses_found (suc most) text uses e =
 use_apart : (c : Command) → is_use c ≡ true → bytes_eq (command_text c) end_text ≡ false
 use_apart (PutContainer container spot from) good = refl
 use_apart (GetContainer container spot) good = refl
-use_apart (DefineProcess transid program) good = cc
-use_apart (Return end_activity) good = cc
+use_apart _ good = cc
 
 spelled_takes : (most : ℕ) (uses : List Command) → length uses < most → list_all is_use uses ≡ true → list_all is_short (use_lines uses) ≡ true
     → uses_in most (text_of_lines (use_lines uses)) ≡ Some uses

@@ -13,6 +13,8 @@ use Rattle.bts_names.specs.declared.reply.Leaving.TheVariants as leaving
 use Rattle.bts_names.specs.declared.row.Row.{Row}
 use Rattle.bts_command.specs.declared.command.Command.{Command}
 use Rattle.bts_command.specs.declared.command.Command.TheVariants as command
+use Rattle.bts_command.specs.declared.command.Target.{Target}
+use Rattle.bts_command.specs.declared.command.Target.TheVariants as target
 use Rattle.bts_command.specs.declared.ended.End.{End}
 use Rattle.bts_command.specs.declared.ended.End.TheVariants.{Commit, Rollback, Abend}
 use Rattle.bts_command.specs.declared.ended.UnitKind.{UnitKind}
@@ -67,12 +69,45 @@ abbrev pub reason_words : Reason → List Bytes
 reason_words reason.None = []
 reason_words why = reason_word why ∷ []
 
+abbrev pub target_word : Target → Bytes
+target_word (target.Activity a) = with_argument (codes "ACTIVITY") a
+target_word target.AcqProcess = codes "ACQPROCESS"
+target_word target.AcqActivity = codes "ACQACTIVITY"
+
+-- the verb, and what it is done with: options, programs, places and data are left out
 abbrev pub command_words : Command → List Bytes
 command_words (command.DefineProcess t p) = codes "DEFINE" ∷ codes "PROCESS" ∷ []
+command_words command.AcquireProcess = codes "ACQUIRE" ∷ codes "PROCESS" ∷ []
+command_words (command.AcquireActivity p) = codes "ACQUIRE" ∷ with_argument (codes "ACTIVITYID") (path_text p) ∷ []
+command_words command.PurgeProcess = codes "PURGE" ∷ codes "ACQPROCESS" ∷ []
+command_words (command.DefineActivity a e t p) = codes "DEFINE" ∷ with_argument (codes "ACTIVITY") a ∷ []
+command_words (command.DeleteActivity a) = codes "DELETE" ∷ with_argument (codes "ACTIVITY") a ∷ []
+command_words (command.Run t s i) = codes "RUN" ∷ target_word t ∷ []
+command_words (command.Link t i) = codes "LINK" ∷ target_word t ∷ []
+command_words (command.Check t) = codes "CHECK" ∷ target_word t ∷ []
+command_words (command.Cancel t) = codes "CANCEL" ∷ target_word t ∷ []
+command_words (command.Reset t) = codes "RESET" ∷ target_word t ∷ []
+command_words (command.Suspend t) = codes "SUSPEND" ∷ target_word t ∷ []
+command_words (command.Resume t) = codes "RESUME" ∷ target_word t ∷ []
 command_words (command.PutContainer c s d) = codes "PUT" ∷ with_argument (codes "CONTAINER") c ∷ []
 command_words (command.GetContainer c s) = codes "GET" ∷ with_argument (codes "CONTAINER") c ∷ []
+command_words (command.DeleteContainer c s) = codes "DELETE" ∷ with_argument (codes "CONTAINER") c ∷ []
+command_words (command.DefineInput e) = codes "DEFINE" ∷ with_argument (codes "INPUT") e ∷ []
+command_words (command.DefineComposite e b ss) = codes "DEFINE" ∷ with_argument (codes "COMPOSITE") e ∷ []
+command_words (command.AddSubevent s e) = codes "ADD" ∷ with_argument (codes "SUBEVENT") s ∷ []
+command_words (command.RemoveSubevent s e) = codes "REMOVE" ∷ with_argument (codes "SUBEVENT") s ∷ []
+command_words (command.DeleteEvent e) = codes "DELETE" ∷ with_argument (codes "EVENT") e ∷ []
+command_words (command.TestEvent e) = codes "TEST" ∷ with_argument (codes "EVENT") e ∷ []
+command_words command.RetrieveReattach = codes "RETRIEVE" ∷ codes "REATTACH" ∷ []
+command_words (command.RetrieveSubevent e) = codes "RETRIEVE" ∷ with_argument (codes "SUBEVENT") e ∷ []
+command_words (command.DefineTimer t e d) = codes "DEFINE" ∷ with_argument (codes "TIMER") t ∷ []
+command_words (command.ForceTimer t o) = codes "FORCE" ∷ with_argument (codes "TIMER") t ∷ []
+command_words (command.CheckTimer t) = codes "CHECK" ∷ with_argument (codes "TIMER") t ∷ []
+command_words (command.DeleteTimer t) = codes "DELETE" ∷ with_argument (codes "TIMER") t ∷ []
 command_words (command.Return false) = codes "RETURN" ∷ []
 command_words (command.Return true) = codes "RETURN" ∷ codes "ENDACTIVITY" ∷ []
+command_words (command.Abend c) = with_argument (codes "ABEND") c ∷ []
+command_words command.Rollback = codes "ROLLBACK" ∷ []
 
 abbrev pub end_words : End → List Bytes
 end_words Commit = codes "COMMIT" ∷ []

@@ -5,7 +5,7 @@ use Rattle.bts_names.specs.Names.{Bytes}
 use Rattle.bts_names.specs.Grammar.{is_between, is_name_within}
 use Rattle.bts_names.specs.declared.key.Key.{Key}
 use Rattle.bts_command.specs.declared.command.Command.{Command}
-use Rattle.bts_command.specs.declared.command.Command.TheVariants.{DefineProcess, PutContainer, GetContainer, Return}
+use Rattle.bts_command.specs.declared.command.Command.TheVariants.{DefineProcess, PutContainer, GetContainer}
 use Rattle.bts_command.specs.declared.command.Spot.{Spot}
 use Rattle.bts_command.specs.declared.command.Spot.TheVariants.{Own, Process, Of}
 use Rattle.bts_command.specs.declared.command.Target.TheVariants.{Activity, AcqProcess, AcqActivity}
@@ -14,12 +14,12 @@ use Rattle.bts_tool.specs.declared.request.Request.{Request}
 abbrev pub key_text : Key → Bytes
 key_text key = codes "REQUEST " ++ key.ptype ++ codes " " ++ key.pname
 
--- a command of the process that the request acquires; RETURN has no line
+-- a command of the process that the request acquires; the other commands have no line
 abbrev pub command_text : Command → Bytes
 command_text (DefineProcess transid program) = codes "DEFINE PROCESS TRANSID(" ++ transid ++ codes ") PROGRAM(" ++ program ++ codes ")"
 command_text (PutContainer container spot from) = codes "PUT CONTAINER(" ++ container ++ codes ") ACQPROCESS FROM('" ++ from ++ codes "')"
 command_text (GetContainer container spot) = codes "GET CONTAINER(" ++ container ++ codes ") ACQPROCESS"
-command_text (Return end_activity) = []
+command_text _ = []
 
 abbrev pub end_text : Bytes
 end_text = codes "END"
@@ -47,9 +47,7 @@ is_key key = is_name_within 8 key.ptype && is_name_within 36 key.pname
 
 abbrev pub is_define : Command → Bool
 is_define (DefineProcess transid program) = is_name_within 4 transid && is_name_within 8 program
-is_define (PutContainer container spot from) = false
-is_define (GetContainer container spot) = false
-is_define (Return end_activity) = false
+is_define _ = false
 
 abbrev pub is_acquired : Spot → Bool
 is_acquired Own = false
@@ -60,10 +58,9 @@ is_acquired (Of AcqActivity) = false
 
 -- a container of the acquired process is put, with a plain text, or got
 abbrev pub is_use : Command → Bool
-is_use (DefineProcess transid program) = false
 is_use (PutContainer container spot from) = is_name_within 16 container && is_acquired spot && list_all is_plain from
 is_use (GetContainer container spot) = is_name_within 16 container && is_acquired spot
-is_use (Return end_activity) = false
+is_use _ = false
 
 -- a process is defined, and then at most 98 times a container is used
 abbrev pub are_commands : List Command → Bool

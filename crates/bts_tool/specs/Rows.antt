@@ -1,6 +1,6 @@
 -- What each command answers in a request's first frame, and the scope that it leaves.
 use Rattle.std.specs.Prelude.{◌+◌, Bool, true, false, Option, Some, None, is_some, [], List, ◌∷◌}
-use Rattle.bts_names.specs.Answer.{Answer, done, at_some, reply_of, left_by, refuse◌because◌when◌otherwise◌, refuse◌for◌otherwise◌}
+use Rattle.bts_names.specs.Answer.{Answer, refused, done, at_some, reply_of, left_by, refuse◌because◌when◌otherwise◌, refuse◌for◌otherwise◌}
 use Rattle.bts_names.specs.Names.{Name, Bytes}
 use Rattle.bts_names.specs.Named.{lookup}
 use Rattle.bts_names.specs.declared.reply.Reply.{Reply}
@@ -80,11 +80,13 @@ return_row s end_activity =
     refuse resp.Invreq because reason.Place when end_activity otherwise
     done value.Nothing s
 
+-- no line of a request makes another command
 unfoldable pub row : Scope → Command → Answer Scope
 row s (command.DefineProcess transid program) = define_process_row s transid program
 row s (command.PutContainer c spot bytes) = put_container_row s c spot bytes
 row s (command.GetContainer c spot) = get_container_row s c spot
 row s (command.Return end_activity) = return_row s end_activity
+row s _ = refused resp.Invreq reason.Place
 
 -- the calls that commands make, one after the other
 abbrev pub calls_of : Scope → List Command → List Call

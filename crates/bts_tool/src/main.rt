@@ -2,6 +2,7 @@
 #![tactic(auto)]
 
 mod cause;
+mod command_words;
 mod containers;
 mod lines;
 mod process;

@@ -181,5 +181,7 @@ pub fn perform(alloc: Global, scope: &mut Scope, command: &Command) -> Result<Re
                 Ok(normal_reply(Value::Nothing))
             }
         }
+        // no line of a request makes another command
+        _ => Ok(refused_reply(Resp::Invreq, Reason::Place)),
     }
 }

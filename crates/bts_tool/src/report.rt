@@ -3,8 +3,9 @@ ghost use Rattle.std.specs.Prelude.{◌≡◌, ◌<◌, ◌^◌, ◌++◌, lengt
 ghost use Rattle.std.specs.List.{flat_map};
 ghost use Rattle.bts_tool.specs.Report.{call_line, row_line, unit_line, unit_text, report, end_line};
 
+use crate::command_words::add_command;
 use crate::report_words::{
-    add_command, add_decimal, add_end, add_reply, add_row, add_unit_arguments, add_word, kind_of,
+    add_decimal, add_end, add_reply, add_row, add_unit_arguments, add_word, kind_of,
 };
 use bts_command::{Call, Ended};
 use bts_names::{Blob, NoMemory, Row};
@@ -15,7 +16,7 @@ fn add_call(alloc: Global, out: &mut Blob, call: &Call) -> Result<(), NoMemory>
     ensures { OnOk result (out.new ≡ out.old ++ call_line call.now) }
 {
     out.extend(b" ")?;
-    add_command(out, &call.command)?;
+    add_command(alloc, out, &call.command)?;
     add_reply(alloc, out, &call.reply)?;
     out.extend(b"\n")
 }

@@ -3,10 +3,10 @@ ghost use Rattle.std.specs.Prelude.{◌≡◌, ◌<◌, [], ◌∷◌, ◌++◌,
 ghost use Rattle.std.specs.List.{flat_map};
 ghost use Rattle.std.specs.Fmt.{decimal};
 ghost use Rattle.bts_tool.specs.Report.{spaced, reply_text};
-ghost use Rattle.bts_tool.specs.ReportWords.{with_argument, path_text, hex_digit, hex_pair, bytes_text, suspended_word, code_word, leaving_words, value_words, reason_words, command_words, end_words, unit_word, unit_arguments, row_place, row_state};
+ghost use Rattle.bts_tool.specs.ReportWords.{with_argument, path_text, hex_digit, hex_pair, bytes_text, suspended_word, code_word, leaving_words, value_words, reason_words, end_words, unit_word, unit_arguments, row_place, row_state};
 
-use bts_command::{Command, End, UnitKind};
-use bts_names::{Abcode, Blob, Key, Leaving, Name16, NoMemory, Path, Reason, Reply, Row, Value};
+use bts_command::{End, UnitKind};
+use bts_names::{Abcode, Blob, Key, Leaving, NoMemory, Path, Reason, Reply, Row, Value};
 use std::alloc::Global;
 
 pub fn add_word(out: &mut Blob, word: &[u8]) -> Result<(), NoMemory>
@@ -23,7 +23,7 @@ pub fn add_decimal(alloc: Global, out: &mut Blob, n: u64) -> Result<(), NoMemory
     out.extend(text.as_bytes())
 }
 
-fn add_with_argument(out: &mut Blob, word: &[u8], argument: &[u8]) -> Result<(), NoMemory>
+pub fn add_with_argument(out: &mut Blob, word: &[u8], argument: &[u8]) -> Result<(), NoMemory>
     ensures { OnOk result (out.new ≡ out.old ++ 32 ∷ with_argument word.now argument.now) }
 {
     add_word(out, word)?;
@@ -42,15 +42,21 @@ fn add_numbers(alloc: Global, out: &mut Blob, numbers: &[u32]) -> Result<(), NoM
     Ok(())
 }
 
-fn add_path(alloc: Global, out: &mut Blob, path: &Path) -> Result<(), NoMemory>
-    ensures { OnOk result (out.new ≡ out.old ++ 32 ∷ path_text path.now) }
+pub fn add_path_text(alloc: Global, out: &mut Blob, path: &Path) -> Result<(), NoMemory>
+    ensures { OnOk result (out.new ≡ out.old ++ path_text path.now) }
 {
-    out.extend(b" ")?;
     let numbers = path.as_slice();
     if numbers.is_empty() {
         return out.extend(b"/");
     }
     add_numbers(alloc, out, numbers)
+}
+
+fn add_path(alloc: Global, out: &mut Blob, path: &Path) -> Result<(), NoMemory>
+    ensures { OnOk result (out.new ≡ out.old ++ 32 ∷ path_text path.now) }
+{
+    out.extend(b" ")?;
+    add_path_text(alloc, out, path)
 }
 
 fn hex(n: u8) -> u8
@@ -153,33 +159,6 @@ pub fn add_reply(alloc: Global, out: &mut Blob, reply: &Reply) -> Result<(), NoM
     add_word(out, reply.resp.word().as_bytes())?;
     add_reason(out, reply.reason)?;
     add_value(alloc, out, &reply.value)
-}
-
-fn add_container(out: &mut Blob, verb: &[u8], container: &Name16) -> Result<(), NoMemory>
-    ensures { OnOk result (out.new ≡ out.old ++ 32 ∷ verb.now ++ 32 ∷ with_argument (codes "CONTAINER") container.now) }
-{
-    add_word(out, verb)?;
-    add_with_argument(out, b"CONTAINER", container.as_bytes())
-}
-
-pub fn add_command(out: &mut Blob, command: &Command) -> Result<(), NoMemory>
-    ensures { OnOk result (out.new ≡ out.old ++ spaced (command_words command.now)) }
-{
-    match command {
-        Command::DefineProcess { .. } => {
-            add_word(out, b"DEFINE")?;
-            add_word(out, b"PROCESS")
-        }
-        Command::PutContainer { container, .. } => add_container(out, b"PUT", container),
-        Command::GetContainer { container, .. } => add_container(out, b"GET", container),
-        Command::Return { end_activity } => {
-            add_word(out, b"RETURN")?;
-            if *end_activity {
-                return add_word(out, b"ENDACTIVITY");
-            }
-            Ok(())
-        }
-    }
 }
 
 pub fn add_end(out: &mut Blob, end: &End) -> Result<(), NoMemory>
