@@ -2,7 +2,6 @@
 #![tactic(auto)]
 
 mod cause;
-mod containers;
 mod lines;
 mod process;
 mod report;
