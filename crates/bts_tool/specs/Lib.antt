@@ -1,6 +1,4 @@
 pub mod Causes
-pub mod Containers
-pub mod Puts
 pub mod Reading
 pub mod Report
 pub mod ReportWords

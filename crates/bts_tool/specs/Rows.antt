@@ -16,7 +16,7 @@ use Rattle.bts_command.specs.declared.command.Spot.{Spot}
 use Rattle.bts_command.specs.declared.command.Spot.TheVariants as spot
 use Rattle.bts_command.specs.declared.command.Target.TheVariants as of
 use Rattle.bts_command.specs.declared.command.Call.{Call}
-use Rattle.bts_tool.specs.Containers.{Containers, is_long, has_no_room, put_container}
+use Rattle.bts_container.specs.Containers.{Containers, is_long, has_no_room, put_container}
 use Rattle.bts_tool.specs.declared.process.Process.{Process}
 use Rattle.bts_tool.specs.declared.process.Held.{Held}
 use Rattle.bts_tool.specs.declared.process.Held.TheVariants as held

@@ -3,7 +3,6 @@
 
 mod cause;
 mod command_words;
-mod containers;
 mod lines;
 mod process;
 mod report;

@@ -3,8 +3,8 @@ ghost use Rattle.std.specs.Prelude.{◌≡◌, ◌<◌, ◌≤◌, ◌+◌, ◌^
 ghost use Rattle.bts_names.specs.Answer.{reply_of, left_by};
 ghost use Rattle.bts_tool.specs.Rows.{row, define_process_row, put_container_row, get_container_row, place_refusal, no_scope, normal, refusal, has_acquired};
 
-use crate::containers::{ContainerPool, PutError};
 use bts_command::{Command, Spot, Target};
+use bts_container::{ContainerPool, PutError};
 use bts_names::{Blob, Name16, NoMemory, ProgName, Reason, Reply, Resp, Transid, Value};
 use std::alloc::Global;
 

@@ -1,9 +1,9 @@
 -- Why a container is not put.
 use Rattle.std.specs.Prelude.{◌≡◌, Option, Some, None, Result, Ok, Err, if◌then◌else◌}
 use Rattle.bts_names.specs.Names.{Name, Bytes}
-use Rattle.bts_tool.specs.Containers.{Containers, is_long, has_no_room}
-use Rattle.bts_tool.specs.declared.containers.PutError.{PutError}
-use Rattle.bts_tool.specs.declared.containers.PutError.TheVariants as put_error
+use Rattle.bts_container.specs.Containers.{Containers, is_long, has_no_room}
+use Rattle.bts_container.specs.declared.put_error.PutError.{PutError}
+use Rattle.bts_container.specs.declared.put_error.PutError.TheVariants as put_error
 
 abbrev pub refusal_of_put : Name → Bytes → Containers → Option PutError
 refusal_of_put n bytes containers =
