@@ -6,7 +6,7 @@ use Rattle.std.specs.List.Sorted.{IsStrictlySortedBy}
 use Rattle.std.specs.Ordering.{nat_cmp, is_eq, match_ordering}
 use Rattle.std.specs.Cmp.Lexicographic.{slice_cmp}
 use Rattle.bts_event.specs.declared.event.Event.{Event}
-use Rattle.bts_event.specs.declared.event.Event.TheVariants.{Atomic as atomic, Composite as composite}
+use Rattle.bts_event.specs.declared.event.Event.TheVariants.{Composite as composite}
 use Rattle.bts_event.specs.declared.event.Trigger.{Trigger}
 use Rattle.bts_event.proofs.Orders.{length-in_order, lookup-in_order, rising_in_order}
 use Rattle.bts_event.proofs.Readings.{head_none}

@@ -1,9 +1,8 @@
 -- Calls on a new pool, and what they leave, computed from the definitions alone.
-use Rattle.std.proofs.Common.{◌≡◌, ℕ, ◌+◌, Bool, true, false, List, [], ◌∷◌, map, Option, Some, None, Result, Ok, Err, codes, refl}
+use Rattle.std.proofs.Common.{◌≡◌, ℕ, false, List, [], ◌∷◌, map, Some, Ok, codes, refl}
 use Rattle.bts_names.specs.declared.reply.Reason.TheVariants as reason
 use Rattle.bts_names.specs.declared.state.EventKind.TheVariants as kind
 use Rattle.bts_names.specs.Names.{Name}
-use Rattle.bts_event.specs.declared.queue.Entry.{Entry}
 use Rattle.bts_event.specs.declared.event.Trigger.TheVariants.{Input, Timer}
 use Rattle.bts_event.specs.Calls.{Call, define, define_composite, fire, retrieve, retrieve_subevent, behind}
 use Rattle.bts_event.specs.Pool.{Pool, empty_pool, settled, next_subevent}

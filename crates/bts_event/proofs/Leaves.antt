@@ -1,4 +1,4 @@
--- Soundness where a sub-event joins or leaves its composite.
+-- Soundness where a sub-event leaves its composite.
 use Rattle.std.proofs.Common.{◌≡◌, ℕ, ◌≤◌, Bool, true, false, cond, not, ◌&&◌, ◌||◌, List, [], ◌∷◌, length, Option, Some, None, refl, ap, sym, subst, ◌∙◌, arith}
 use Rattle.std.specs.Option.{option_map}
 use Rattle.std.specs.Map.{keys_of}
@@ -22,7 +22,7 @@ use Rattle.bts_event.specs.Sound.{AreSoundEvents, EntriesFit, IsSoundComposite, 
 use Rattle.bts_names.specs.Named.{lookup}
 use Rattle.bts_names.specs.Names.{Name, initial_name, same, same_exact}
 
--- no composite has it: no holder
+-- a name that no composite lists has no holder
 none_by : (o : Option Name) (fs : Events) (n : Name) → holder fs n ≡ o → IsStrictlySortedBy (slice_cmp nat_cmp) (keys_of fs)
     → ((x : Name) (k : Composite) → lookup x fs ≡ Some (composite k) → has k.subs n ≡ false) → o ≡ None
 none_by None fs n e s h = refl
@@ -222,7 +222,7 @@ left_fit true p c s n e o h a b =
 left_fit false p c s n e o h a b =
     subst (λ x. EntriesFit n (lookup n p.events) x (entries_of n p.entries)) (sym (other_holder p.events c s o.events h n e)) (o.entries n)
 
--- REMOVE SUBEVENT, before its entry
+-- a sub-event leaves, before the entry of its composite
 pub removed_sound : (p : Pool) (c s : Name) → IsSoundPool p → holder p.events s ≡ Some c → is_atomic (lookup s p.events) ≡ true → is_fired_atomic (lookup s p.events) ≡ false
     → (let q : Pool = record { events = change p.events c (without_sub s); entries = p.entries; last = p.last } in IsSoundPool q)
 removed_sound p c s o h a b = record {

@@ -19,8 +19,7 @@ use Rattle.bts_event.proofs.OneTurns.{bit_turns, calm_holds, change_turns, drop_
 use Rattle.bts_event.proofs.Orders.{IsRising, rising_without}
 use Rattle.bts_event.proofs.Readings.{keys-change, lookup-change_here, read-change}
 use Rattle.bts_event.proofs.SubCalls.{after_composite, but_fits, fired_sub_sound, owner_composite, sub_bit_sound, sub_fired}
-use Rattle.bts_event.proofs.Subs.{before, owned}
-use Rattle.bts_event.specs.Calls.{after}
+use Rattle.bts_event.proofs.Subs.{owned}
 use Rattle.bts_event.specs.Composites.{Composite}
 use Rattle.bts_event.specs.Events.{Events, change, except, has, held_at, holder, holds, is_atomic, is_composite, is_fired_atomic, new_atomic, new_composite, set_bit, value_of, with_bit, with_queued, with_sub, without_queued, without_sub}
 use Rattle.bts_event.specs.Pool.{Pool, defined, deleted, deleted_from, dropped, fired, parted, placed, removed, removed_at, settled, settled_at, subevent_added, subevent_removed, turns, unfired, with_fired, with_unfired, withdrawn}

@@ -34,13 +34,14 @@ impl Trigger {
     }
 }
 
-/// An event that fires by itself.
+/// An event that is fired, and stays so until it is retrieved.
 #[derive(Clone, Copy, Debug, PartialEq, Eq)]
 pub struct Atomic {
     pub trigger: Trigger,
     pub fired: bool,
 }
 
+/// An event of a pool.
 #[derive(Debug, Drop)]
 pub enum Event {
     Atomic(Atomic),

@@ -1,6 +1,5 @@
 // Event pools.
-ghost use Rattle.std.specs.Prelude.{◌≡◌, ◌<◌, ◌≤◌, ◌-◌, ◌^◌, length, OnOk, OnErr, true, false};
-ghost use Rattle.std.specs.Prelude.{IfOk};
+ghost use Rattle.std.specs.Prelude.{◌≡◌, ◌<◌, ◌≤◌, ◌-◌, ◌^◌, length, IfOk, OnOk, OnErr, true, false};
 ghost use Rattle.bts_names.specs.Names.{same, initial_name};
 ghost use Rattle.bts_names.specs.Named.{lookup, is_there};
 ghost use Rattle.bts_event.specs.Events as events;
@@ -95,7 +94,7 @@ impl EventPool {
         let _ = &self.events;
     }
 
-    /// Defines an event that a program fires.
+    /// Defines an event that a program fires. Refused for Taken, then Limit at 256 events.
     pub fn define_input(&mut self, name: Name16) -> Result<(), PoolError>
         requires { same name initial_name ≡ false }
         ensures why { refusals.Answers result (refusals.define_refusal name self.old.events) }
@@ -106,7 +105,7 @@ impl EventPool {
         self.define(name, Trigger::Input)
     }
 
-    /// Defines the completion event of a child.
+    /// Defines the completion event of a child. Refused as `define_input` is.
     pub fn define_completion(&mut self, name: Name16, child: u32) -> Result<(), PoolError>
         requires { same name initial_name ≡ false }
         ensures why { refusals.Answers result (refusals.define_refusal name self.old.events) }
@@ -117,7 +116,7 @@ impl EventPool {
         self.define(name, Trigger::Completion(child))
     }
 
-    /// Defines the event of a timer.
+    /// Defines the event of a timer. Refused as `define_input` is.
     pub fn define_timer_event(&mut self, name: Name16, timer: Name16) -> Result<(), PoolError>
         requires { same name initial_name ≡ false }
         ensures why { refusals.Answers result (refusals.define_refusal name self.old.events) }
@@ -147,7 +146,9 @@ impl EventPool {
         }
     }
 
-    /// Defines a composite of these sub-events: of all where `all` is true, else of any.
+    /// Defines a composite of these sub-events: of all where `all` is true, else of any. Refused for Taken,
+    /// then for each sub-event in order Missing, NotAtomic, IsSubevent (also where it stood earlier in the
+    /// list) and Fired, then Limit at 256 events.
     pub fn define_composite(
         &mut self,
         alloc: Global,
@@ -174,7 +175,8 @@ impl EventPool {
         }
     }
 
-    /// Puts a sub-event at the end of a composite's.
+    /// Puts a sub-event at the end of a composite's. Refused for Missing and NotComposite of the composite,
+    /// then Missing, NotAtomic, IsSubevent and Fired of the sub-event, then Limit at 32.
     pub fn add_subevent(&mut self, composite: Name16, sub: Name16) -> Result<(), PoolError>
         ensures why { refusals.Answers result (refusals.add_refusal composite sub self.old.events) }
         ensures ok { OnOk result (self.new ≡ pool.subevent_added composite sub self.old) }
@@ -189,7 +191,8 @@ impl EventPool {
         Ok(())
     }
 
-    /// Takes a sub-event out of a composite; it stays in the pool.
+    /// Takes a sub-event out of a composite; it stays in the pool. The composite makes an entry where it turns
+    /// by that. Refused for Missing and NotComposite of the composite, then NotSubevent and Fired.
     pub fn remove_subevent(&mut self, composite: Name16, sub: Name16) -> Result<(), PoolError>
         requires { self.old.last < 2 ^ 64 - 1 }
         ensures why { refusals.Answers result (refusals.leave_refusal composite sub self.old.events) }
@@ -214,7 +217,9 @@ impl EventPool {
         Ok(())
     }
 
-    /// Deletes an input event or a composite. A composite's sub-events stay in the pool.
+    /// Deletes an input event or a composite, with its entries. A composite's sub-events stay in the pool; a
+    /// composite that loses a sub-event so makes an entry where it turns. Refused for Missing, then Kind of a
+    /// completion event or a timer's, then Fired of a composite with a fired sub-event.
     pub fn delete(&mut self, name: Name16) -> Result<(), PoolError>
         requires { self.old.last < 2 ^ 64 - 1 }
         ensures why { refusals.Answers result (refusals.delete_refusal name self.old.events) }
@@ -231,7 +236,7 @@ impl EventPool {
         Ok(())
     }
 
-    /// Deletes an atomic event of any kind, and tells whether it was there.
+    /// Deletes an atomic event of any kind, fired or not, as `delete` does, and tells whether it was there.
     pub fn remove(&mut self, name: Name16) -> Result<bool, NoMemory>
         requires atomic { events.is_composite (lookup name self.old.events) ≡ false }
         requires below { self.old.last < 2 ^ 64 - 1 }
@@ -249,7 +254,8 @@ impl EventPool {
         Ok(true)
     }
 
-    /// Fires an atomic event.
+    /// Fires an atomic event: its firing joins the queue of its composite, which makes an entry where it turns;
+    /// where the event has no composite, it makes an entry itself. Refused for Missing, NotAtomic, Fired.
     pub fn fire(&mut self, name: Name16) -> Result<(), PoolError>
         requires { self.old.last < 2 ^ 64 - 1 }
         ensures why { refusals.Answers result (refusals.fire_refusal name self.old.events) }
@@ -318,7 +324,8 @@ impl EventPool {
         self.queue.clear();
     }
 
-    /// Takes the first entry, and gives its name and kind. Its event, if it is atomic, is not fired any more.
+    /// Takes the first entry, if there is one, and gives its name and kind. Its event, if it is atomic, is not
+    /// fired any more.
     pub fn retrieve(&mut self) -> Option<(Name16, EventKind)>
         ensures answer { result ≡ pool.first_entry self.old.entries self.old.events }
         ensures after { self.new ≡ pool.retrieved self.old }
@@ -329,7 +336,8 @@ impl EventPool {
         Some((entry.name, kind))
     }
 
-    /// Takes the first of a composite's queue, which is not fired any more, and gives its name and kind.
+    /// Takes the first of a composite's queue, which is not fired any more, and gives its name and kind. Refused
+    /// for Missing, NotComposite, Empty.
     pub fn retrieve_subevent(&mut self, composite: Name16) -> Result<(Name16, EventKind), Reason>
         ensures answer { result ≡ pool.next_subevent composite self.old }
         ensures after { self.new ≡ pool.subevent_retrieved composite self.old }
@@ -340,7 +348,7 @@ impl EventPool {
         Ok((name, kind))
     }
 
-    /// Whether an event is fired, or a composite holds.
+    /// Whether an event is fired, or a composite holds. Refused for Missing.
     pub fn test(&self, name: Name16) -> Result<bool, Reason>
         ensures { result ≡ pool.test_of self.now.events (lookup name self.now.events) }
     {

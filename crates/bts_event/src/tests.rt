@@ -174,13 +174,7 @@ fn parts(alloc: Global) -> Result<bool, NoMemory> {
     let mut subs = Vec::new(alloc);
     subs.push(named("CHILD"))?;
     let composite = Composite::from_parts(true, subs, Vec::new(alloc));
-    let pool = EventPool::from_parts(alloc, Vec::new(alloc), Vec::new(alloc), 9)?;
-    Ok(
-        composite.is_of_all()
-            && composite.subevents().len() == 1
-            && composite.queue().is_empty()
-            && pool.last_number() == 9,
-    )
+    Ok(composite.is_of_all() && composite.subevents().len() == 1 && composite.queue().is_empty())
 }
 
 #[test]

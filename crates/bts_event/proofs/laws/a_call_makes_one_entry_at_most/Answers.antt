@@ -1,4 +1,3 @@
-use Rattle.std.proofs.Common.{◌≡◌}
 use Rattle.bts_event.proofs.laws.a_call_makes_one_entry_at_most.Goals as goal
 use Rattle.bts_event.proofs.Accounts.{behind_sound, made_few}
 use Rattle.bts_event.specs.Calls.{behind}

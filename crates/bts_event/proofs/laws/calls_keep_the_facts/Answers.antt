@@ -1,4 +1,3 @@
-use Rattle.std.proofs.Common.{◌≡◌}
 use Rattle.bts_event.proofs.laws.calls_keep_the_facts.Goals as goal
 use Rattle.bts_event.proofs.Accounts.{behind_sound}
 

@@ -1,4 +1,3 @@
-use Rattle.std.proofs.Common.{◌≡◌}
 use Rattle.bts_event.proofs.laws.entries_leave_by_name.Goals as goal
 use Rattle.bts_event.proofs.Accounts.{behind_sound, parts}
 use Rattle.bts_event.specs.Calls.{behind}

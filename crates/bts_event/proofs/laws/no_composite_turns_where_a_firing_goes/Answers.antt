@@ -1,4 +1,3 @@
-use Rattle.std.proofs.Common.{◌≡◌}
 use Rattle.bts_event.proofs.laws.no_composite_turns_where_a_firing_goes.Goals as goal
 use Rattle.bts_event.proofs.Falls.{entered_calm, retrieved_calm, subevent_retrieved_calm, unfired_calm}
 use Rattle.bts_names.specs.Names.{initial_name}

@@ -1,4 +1,3 @@
-use Rattle.std.proofs.Common.{◌≡◌}
 use Rattle.bts_event.proofs.laws.numbers_are_never_given_again.Goals as goal
 use Rattle.bts_event.proofs.Accounts.{numbers_rise}
 

@@ -1,4 +1,3 @@
-use Rattle.std.proofs.Common.{◌≡◌}
 use Rattle.bts_event.proofs.laws.retrieving_ends_one_firing.Goals as goal
 use Rattle.bts_event.proofs.Falls.{retrieved_off, retrieved_others}
 
