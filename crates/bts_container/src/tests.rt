@@ -12,20 +12,39 @@ fn name(text: &str) -> Result<Name16, Fail> {
 fn two_containers(alloc: Global) -> Result<ContainerPool, Fail> {
     let mut pool = ContainerPool::new(alloc);
     for (text, bytes) in [("B", b"one"), ("A", b"two"), ("B", b"six")] {
-        pool.put(alloc, name(text)?, bytes.as_slice())?;
+        let container = name(text)?;
+        pool.put(alloc, container, bytes.as_slice())?;
     }
     Ok(pool)
+}
+
+fn holds(pool: &ContainerPool, container: Name16, bytes: &[u8]) -> bool {
+    match pool.get(container) {
+        Some(held) => held == bytes,
+        None => false,
+    }
+}
+
+fn holds_at(pool: &ContainerPool, place: usize, bytes: &[u8]) -> bool {
+    match pool.get_index(place) {
+        Some((_, held)) => held == bytes,
+        None => false,
+    }
 }
 
 #[test]
 fn containers_keep_their_places(rt: HostRuntime) -> Result<(), Fail> {
     let alloc = rt.alloc();
     let mut pool = two_containers(alloc)?;
-    assert!(rt; pool.len() == 2 && !pool.is_empty());
-    assert!(rt; pool.get(name("B")?) == Some(b"six".as_slice()));
-    assert!(rt; pool.get_index(1).map(|entry| entry.1) == Some(b"two".as_slice()));
+    let first = name("B")?;
+    let third = name("C")?;
+    assert!(rt; holds(&pool, first, b"six".as_slice()));
+    assert!(rt; holds_at(&pool, 1, b"two".as_slice()));
     let long = vec![in alloc; b'x'; 32_769]?;
-    assert!(rt; pool.put(alloc, name("C")?, long.as_slice()) == Err(PutError::Long));
+    let put = pool.put(alloc, third, long.as_slice());
+    assert!(rt; put == Err(PutError::Long));
+    assert_eq!(rt; pool.len(), 2);
+    assert!(rt; !pool.is_empty());
     Ok(())
 }
 
@@ -33,11 +52,13 @@ fn containers_keep_their_places(rt: HostRuntime) -> Result<(), Fail> {
 fn containers_are_copied_and_deleted(rt: HostRuntime) -> Result<(), Fail> {
     let alloc = rt.alloc();
     let mut pool = two_containers(alloc)?;
+    let first = name("B")?;
     let copy = pool.copy(alloc)?;
     assert!(rt; pool.same(&copy));
-    assert!(rt; pool.delete(name("B")?));
-    assert!(rt; !pool.delete(name("B")?));
+    let deleted = pool.delete(first);
+    let again = pool.delete(first);
+    assert!(rt; deleted && !again);
     assert!(rt; !pool.same(&copy));
-    assert!(rt; pool.get_index(0).map(|entry| entry.1) == Some(b"two".as_slice()));
+    assert!(rt; holds_at(&pool, 0, b"two".as_slice()));
     Ok(())
 }
