@@ -37,7 +37,7 @@ nothing_sorted : IsStrictlySortedBy (slice_cmp nat_cmp) []
 unfolding IsStrictlySortedBy
 nothing_sorted = tt
 
-clear_sound : (p : Pool) → IsSoundPool (cleared p)
+pub clear_sound : (p : Pool) → IsSoundPool (cleared p)
 clear_sound p = record {
   events = record { ordered = nothing_sorted; few = omega arith; unnamed = refl; composites = λ c k h. cc };
   entries = λ n. λ h. refl;

@@ -177,6 +177,14 @@ fn parts(alloc: Global) -> Result<bool, NoMemory> {
     Ok(composite.is_of_all() && composite.subevents().len() == 1 && composite.queue().is_empty())
 }
 
+/// A pool of no event and no entry, whose numbers go on behind 7.
+fn comes_of_parts(alloc: Global) -> bool {
+    match EventPool::from_parts(alloc, Vec::new(alloc), Vec::new(alloc), 7) {
+        Ok(pool) => pool.last_number() == 7 && pool.count() == 0,
+        Err(_) => false,
+    }
+}
+
 #[test]
 fn each_call_succeeds(rt: HostRuntime) -> Result<(), Fail> {
     let alloc = rt.alloc();
@@ -186,6 +194,7 @@ fn each_call_succeeds(rt: HostRuntime) -> Result<(), Fail> {
     assert!(rt; turns(&mut pool));
     assert!(rt; ends(&mut pool));
     assert!(rt; starts(&mut pool));
+    assert!(rt; comes_of_parts(alloc));
     assert!(rt; parts(alloc)?);
     Ok(())
 }
