@@ -1,6 +1,6 @@
 // What no clause says: that the calls succeed where there is memory.
 use crate::{ContainerPool, PutError};
-use bts_names::Name16;
+use bts_names::{Blob, Name16};
 use std::alloc::Global;
 use std::test::Fail;
 
@@ -59,6 +59,20 @@ fn containers_are_copied_and_deleted(rt: HostRuntime) -> Result<(), Fail> {
     let again = pool.delete(first);
     assert!(rt; deleted && !again);
     assert!(rt; !pool.same(&copy));
+    assert!(rt; holds_at(&pool, 0, b"two".as_slice()));
+    Ok(())
+}
+
+#[test]
+fn a_pool_is_made_of_its_containers(rt: HostRuntime) -> Result<(), Fail> {
+    let alloc = rt.alloc();
+    let container = name("A")?;
+    let bytes = Blob::copy_of(alloc, b"two".as_slice())?;
+    let mut containers = Vec::new(alloc);
+    containers.push((container, bytes))?;
+    let pool = ContainerPool::from_parts(alloc, containers)?;
+    pool.facts();
+    assert_eq!(rt; pool.len(), 1);
     assert!(rt; holds_at(&pool, 0, b"two".as_slice()));
     Ok(())
 }

@@ -9,7 +9,7 @@ ghost use Rattle.bts_names.specs.declared.state.TimerStatus.TheVariants as statu
 ghost use Rattle.bts_timer.specs.Timers.{define_refusal, force_refusal, delete_refusal, Answers, done_unless, started, with_status, status_or_missing, is_unexpired_one, checked, due_until};
 
 use crate::{PoolError, Timer};
-use bts_names::{Moment, Name16, NoMemory, Reason, TimerStatus};
+use bts_names::{Moment, Name16, NoMemory, Reason, TimerStatus, map_of};
 use std::alloc::Global;
 use std::collections::BTreeMap;
 use std::marker::Model;
@@ -36,6 +36,15 @@ impl TimerPool {
         TimerPool {
             map: BTreeMap::new(alloc),
         }
+    }
+
+    /// A pool of these timers, which stand by rising name.
+    pub fn from_parts(alloc: Global, timers: Vec<(Name16, Timer)>) -> Result<Self, NoMemory>
+        requires { IsStrictlySortedBy (slice_cmp nat_cmp) (keys_of timers.items) }
+        ensures { IfOk result (λ pool. pool ≡ timers.items) }
+    {
+        let map = map_of(alloc, timers)?;
+        Ok(TimerPool { map })
     }
 
     /// Starts an UNEXPIRED timer. It is refused as Taken exactly where the name is there. The time grows

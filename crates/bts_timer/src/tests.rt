@@ -1,5 +1,5 @@
 // What no clause says: that the calls succeed where there is memory.
-use crate::{PoolError, TimerPool};
+use crate::{PoolError, Timer, TimerPool};
 use bts_names::{Moment, Name16, Reason, TimerStatus};
 use std::test::Fail;
 
@@ -45,5 +45,25 @@ fn timers_come_due_by_name(rt: HostRuntime) -> Result<(), Fail> {
     );
     assert_eq!(rt; pool.delete(second), Ok(()));
     assert_eq!(rt; pool.delete(second), Err(Reason::Missing));
+    Ok(())
+}
+
+#[test]
+fn a_pool_is_made_of_its_timers(rt: HostRuntime) -> Result<(), Fail> {
+    let alloc = rt.alloc();
+    let mut timers = Vec::new(alloc);
+    timers.push((
+        Name16::read(b"T1".as_slice())?,
+        Timer {
+            due: Moment::first(),
+            status: TimerStatus::Expired,
+        },
+    ))?;
+    let mut pool = TimerPool::from_parts(alloc, timers)?;
+    pool.facts();
+    assert_eq!(rt; pool.len(), 1);
+    let name = Name16::read(b"T1".as_slice())?;
+    assert_eq!(rt; pool.check(name), Ok(TimerStatus::Expired));
+    assert!(rt; pool.is_empty());
     Ok(())
 }
