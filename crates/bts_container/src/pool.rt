@@ -94,6 +94,13 @@ impl ContainerPool {
         self.map.shift_remove(&name).is_some()
     }
 
+    /// Takes all containers away.
+    pub fn clear(&mut self)
+        ensures { self.new ≡ [] }
+    {
+        self.map.clear();
+    }
+
     /// How many containers there are.
     pub fn len(&self) -> usize
         ensures { result ≡ length self.now }
