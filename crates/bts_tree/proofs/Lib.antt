@@ -1,0 +1,5 @@
+pub mod Alike
+pub mod Emptied
+pub mod Finds
+pub mod Retained
+pub mod Slots
