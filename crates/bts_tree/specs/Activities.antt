@@ -8,7 +8,7 @@ use Rattle.bts_names.specs.declared.state.Mode.TheVariants as mode
 use Rattle.bts_names.specs.declared.state.Status.{Status}
 use Rattle.bts_names.specs.declared.state.Status.TheVariants as status
 use Rattle.bts_event.specs.Pool.{empty_pool, cleared}
-use Rattle.bts_tree.specs.Modes.{is_mode_initial, is_mode_dormant, is_mode_complete}
+use Rattle.bts_tree.specs.Modes.{Cause, change_of, is_mode_initial, is_mode_dormant, is_mode_complete}
 use Rattle.bts_tree.specs.Paths.{leads_to, is_child_of}
 use Rattle.bts_tree.specs.declared.activity.Activity.{Activity}
 
@@ -69,6 +69,16 @@ is_ready a = (is_initial a || is_dormant a) && not a.suspended && has_entries a
 -- a notice is enabled: COMPLETE and not told
 abbrev pub is_untold : Activity → Bool
 is_untold a = is_complete a && not a.told
+
+-- ---- changes of mode
+
+-- the activity in the mode and with the status to which a cause leads, and with an abend code or none
+abbrev pub by_cause : Cause → Option Name → Activity → Activity
+by_cause why code a = record a { mode = (change_of why).1; status = (change_of why).2; code = code }
+
+-- the same where it ends the activity: it loses its events, its timers and its entries
+abbrev pub ended_by : Cause → Option Name → Bool → Activity → Activity
+ended_by why code told a = record a { mode = (change_of why).1; status = (change_of why).2; code = code; told = told; pool = cleared a.pool; timers = [] }
 
 -- ---- completion
 

@@ -1,9 +1,9 @@
 -- All processes, and what is enabled in them.
-use Rattle.std.specs.Prelude.{ℕ, Bool, true, false, cond, not, nat_eq, List, [], ◌∷◌, length, map, Option, Some, None}
+use Rattle.std.specs.Prelude.{◌≡◌, ℕ, Bool, true, false, cond, not, nat_eq, List, [], ◌∷◌, length, map, Option, Some, None}
 use Rattle.std.specs.BTreeSet.{insert_key}
-use Rattle.std.specs.List.{filter, find, flat_map, list_any}
+use Rattle.std.specs.List.{AllByRecursion, slice_get, filter, find, flat_map, list_any}
 use Rattle.std.specs.Option.{option_map, unwrap_or}
-use Rattle.std.specs.Ordering.{nat_cmp, ordering_then, is_lt, eq_by_cmp, match_ordering}
+use Rattle.std.specs.Ordering.{nat_cmp, ordering_then, is_lt, is_gt, eq_by_cmp, match_ordering}
 use Rattle.std.specs.declared.cmp.Ordering.{Ordering}
 use Rattle.std.specs.Cmp.Lexicographic.{slice_cmp}
 use Rattle.bts_names.specs.Keys.{key_cmp}
@@ -152,3 +152,12 @@ module _ {X : Type 0} (cmp : X → X → Ordering) where
   -- the first of a list that stands behind another
   abbrev pub first_behind : Option X → List X → Option X
   first_behind after xs = find (is_behind after) xs
+
+-- one of a list that is behind another, and above none of the list that are
+pub record IsLeastBehind {X : Type 0} (cmp : X → X → Ordering) (after : Option X) (x : X) (xs : List X) : Type 0 where
+  pub one_of_them : (i : ℕ) × (slice_get xs i ≡ Some x)
+  pub behind : is_behind cmp after x ≡ true
+  pub least : AllByRecursion (λ y. is_behind cmp after y ≡ true → is_gt (cmp x y) ≡ false) xs
+
+abbrev pub HasNoneBehind : {X : Type 0} → (X → X → Ordering) → Option X → List X → Type 0
+HasNoneBehind cmp after xs = AllByRecursion (λ y. is_behind cmp after y ≡ false) xs
