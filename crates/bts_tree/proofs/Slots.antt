@@ -19,7 +19,7 @@ use Rattle.std.proofs.lemmas.Map.Keys.{sorted_head, sorted_tail, IsDistinct-from
 use Rattle.bts_names.specs.Keys.{key_cmp}
 use Rattle.bts_names.proofs.Sameness.{keys_same_where_equal}
 use Rattle.bts_names.specs.declared.key.Key.{Key}
-use Rattle.bts_tree.specs.Keeping.{Slots, process_of, in_front, processes_of, process_or_none, kept_of, slots_of, slot_of, activities_in, generation_in, stored_in}
+use Rattle.bts_tree.specs.Keeping.{Slots, process_of, in_front, processes_of, process_or_none, kept_of, slots_of, slot_of, activities_in, keys_in, generation_in, stored_in}
 use Rattle.bts_tree.specs.Processes.{Process, no_process}
 use Rattle.bts_tree.specs.Repositories.{Processes, same_key, process_at, placed_by_key, without_key, put, keys_of_processes, chosen, chosen_at, due_in, due_among, rows, row_of, has_room, with_room, put_held, stored_of, Stored}
 use Rattle.bts_tree.specs.Scopes.{HeldProcess}
@@ -222,6 +222,10 @@ keys_of_slots [] = refl
 keys_of_slots (s ∷ repo) = ap (λ ks. s.key ∷ ks) (keys_of_slots repo)
 
 -- ---- the first slot, and the others
+
+pub keys_front : (key : Key) (slot : Option Kept) (repo : Processes) → keys_of_processes (in_front key slot repo) ≡ keys_in key slot ++ keys_of_processes repo
+keys_front key None repo = refl
+keys_front key (Some k) repo = refl
 
 pub chosen_front : (test : Activity → Bool) (key : Key) (slot : Option Kept) (repo : Processes) → chosen test (in_front key slot repo) ≡ chosen_at test key (activities_in slot) ++ chosen test repo
 chosen_front test key None repo = refl

@@ -48,6 +48,10 @@ abbrev pub activities_in : Option Kept → Activities
 activities_in None = []
 activities_in (Some k) = unwrap_or k.tree []
 
+abbrev pub keys_in : Key → Option Kept → List Key
+keys_in key None = []
+keys_in key (Some k) = key ∷ []
+
 abbrev pub generation_in : Option Kept → ℕ
 generation_in None = 0
 generation_in (Some k) = k.generation

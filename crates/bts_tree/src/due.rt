@@ -72,6 +72,23 @@ fn due_in_pool(
     ensures { option_map (λ n. (key.now, path.now, n)) result
         ≡ repo.first_behind repo.timer_place_cmp after.now (repo.due_at now key.now path.now timers.now) }
 {
+    let first = timers.due_until(now)?;
+    if is_behind(after, key, path, &first) {
+        return Some(first);
+    }
+    due_behind(key, path, timers, now, after)
+}
+
+fn due_behind(
+    key: &Key,
+    path: &Path,
+    timers: &TimerPool,
+    now: Moment,
+    after: &Option<(Key, Path, Name16)>,
+) -> Option<Name16>
+    ensures { option_map (λ n. (key.now, path.now, n)) result
+        ≡ repo.first_behind repo.timer_place_cmp after.now (repo.due_at now key.now path.now timers.now) }
+{
     for place in 0..timers.len() {
         if let Some(name) = due_there(key, path, timers.get_index(place), now, after) {
             return Some(name);

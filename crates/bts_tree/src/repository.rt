@@ -11,7 +11,7 @@ ghost use Rattle.bts_tree.specs.Repositories as repo;
 use crate::due::next_due;
 use crate::kept::{Kept, kept_of, slot_of};
 use crate::listing::rows_of_all;
-use crate::walk::{Wanted, next_place};
+use crate::walk::{Wanted, next_key, next_place};
 use crate::{Activity, Scope, Tree};
 use bts_container::ContainerPool;
 use bts_names::{Key, Moment, Name16, NoMemory, Path, Rows, map_of};
@@ -63,6 +63,13 @@ impl Repository {
             Some(kept) => kept.generation,
             None => 0,
         }
+    }
+
+    /// The least key behind `after` that was ever defined. The time grows with the number of keys.
+    pub fn next_key(&self, after: Option<Key>) -> Option<Key>
+        ensures { result ≡ repo.first_behind key_cmp after (repo.keys_of_processes self.now.processes) }
+    {
+        next_key(&self.map, &after)
     }
 
     /// The tree of a process; None also where the key was never defined.
@@ -118,8 +125,8 @@ impl Repository {
     }
 
     /// The least timer, by key, path and name, that stands behind `after`, is UNEXPIRED and due at or before this
-    /// moment. The time grows with the number of activities and, at each, with the square of the number of its
-    /// timers.
+    /// moment. The time grows with the number of activities and timers of the repository, and with the square of
+    /// the number of timers of the activity at `after`.
     pub fn next_due(
         &self,
         now: Moment,

@@ -252,6 +252,7 @@ fn what_is_enabled_comes_in_order(rt: HostRuntime) -> Result<(), Fail> {
     assert_eq!(rt; repo.next_ready(None), place("P", 2));
     assert_eq!(rt; repo.next_ready(place("P", 2)), place("Q", 0));
     assert_eq!(rt; repo.next_ready(place("Q", 0)), None);
+    assert_eq!(rt; repo.next_key(key_named("P")), key_named("Q"));
     assert_eq!(rt; repo.next_notice(None), place("P", 1));
     assert_eq!(rt; repo.next_notice(place("P", 1)), None);
     Ok(())

@@ -1,6 +1,7 @@
 // Walks over all processes for what is enabled.
 ghost use Rattle.std.specs.Prelude.{◌≡◌, Some, None};
 ghost use Rattle.std.specs.Option.{option_map};
+ghost use Rattle.bts_names.specs.Keys.{key_cmp};
 ghost use Rattle.bts_tree.specs.Keeping as keeping;
 ghost use Rattle.bts_tree.specs.Repositories as repo;
 
@@ -43,6 +44,37 @@ pub(crate) fn next_place(
         }
     }
     None
+}
+
+/// The first key that was ever defined and stands behind `after`.
+pub(crate) fn next_key(map: &BTreeMap<Key, Option<Kept>>, after: &Option<Key>) -> Option<Key>
+    ensures { result ≡ repo.first_behind key_cmp after.now
+        (repo.keys_of_processes (keeping.processes_of map.now.entries)) }
+{
+    for (key, slot) in map {
+        if let Some(found) = key_behind(key, slot, after) {
+            return Some(found);
+        }
+    }
+    None
+}
+
+fn key_behind(key: &Key, slot: &Option<Kept>, after: &Option<Key>) -> Option<Key>
+    ensures { result ≡ repo.first_behind key_cmp after.now (keeping.keys_in key.now slot.now) }
+{
+    match slot {
+        Some(_) if is_key_behind(after, key) => Some(*key),
+        _ => None,
+    }
+}
+
+fn is_key_behind(after: &Option<Key>, key: &Key) -> bool
+    ensures { result ≡ repo.is_behind key_cmp after.now key.now }
+{
+    match after {
+        None => true,
+        Some(other) => *other < *key,
+    }
 }
 
 fn next_in_slot(

@@ -1,6 +1,6 @@
 use Rattle.std.proofs.Common.{◌≡◌, drop}
 use Rattle.bts_tree.specs.Repositories as repo
-use Rattle.bts_tree.proofs.due.due_in_pool.Given as goal
+use Rattle.bts_tree.proofs.due.due_behind.Given as goal
 
 -- what is left has the answer
 abbrev pub invariant-loop-place : goal.invariant-loop-place
