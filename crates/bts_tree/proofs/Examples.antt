@@ -1,18 +1,16 @@
 -- Processes and what becomes of them, computed from the definitions alone.
 use Rattle.std.proofs.Common.{◌≡◌, ℕ, Bool, true, false, List, [], ◌∷◌, map, codes, refl}
-use Rattle.std.specs.Prelude.{Option, Some, None}
+use Rattle.std.specs.Prelude.{Some, None}
 use Rattle.bts_names.specs.Names.{Name, ActivityPath}
-use Rattle.bts_names.specs.declared.key.Key.{Key}
 use Rattle.bts_names.specs.declared.state.Mode.{Mode}
 use Rattle.bts_names.specs.declared.state.Mode.TheVariants as mode
 use Rattle.bts_names.specs.declared.state.Status.{Status}
 use Rattle.bts_names.specs.declared.state.Status.TheVariants as status
 use Rattle.bts_names.specs.declared.state.TimerStatus.TheVariants as timer
 use Rattle.bts_event.specs.Pool.{entered}
-use Rattle.bts_tree.specs.Activities.{new_activity, new_root, ended_by}
-use Rattle.bts_tree.specs.Modes.{finishes}
-use Rattle.bts_tree.specs.Processes.{Process, no_process, activities, planted, added, edited, removed, complete, part, join, child_of, queued}
-use Rattle.bts_tree.specs.Repositories.{Processes, Place, put, process_at, place_cmp, first_behind, ready_in, untold_in, due_in, rows}
+use Rattle.bts_tree.specs.Activities.{new_activity, new_root}
+use Rattle.bts_tree.specs.Processes.{Process, no_process, activities, planted, added, edited, removed, complete, part, join, child_of}
+use Rattle.bts_tree.specs.Repositories.{Processes, Place, put, place_cmp, first_behind, ready_in, untold_in, due_in, rows}
 use Rattle.bts_tree.specs.declared.activity.Activity.{Activity}
 
 abbrev name : Name

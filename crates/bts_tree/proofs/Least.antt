@@ -1,7 +1,7 @@
 -- The first one behind a place, in a list that rises.
-use Rattle.std.proofs.Common.{◌≡◌, Bool, true, false, cond, List, [], ◌∷◌, ℕ, zero, suc, refl, ap, sym, subst, ◌∙◌}
+use Rattle.std.proofs.Common.{◌≡◌, Bool, true, false, cond, List, [], ◌∷◌, suc, refl, ap, subst}
 use Rattle.std.specs.Cmp.{IsTotalOrder}
-use Rattle.std.specs.List.{AllByRecursion, find, slice_get}
+use Rattle.std.specs.List.{AllByRecursion}
 use Rattle.std.specs.List.Sorted.{IsStrictlySortedBy}
 use Rattle.std.specs.Ordering.{is_gt, ordering_reverse}
 use Rattle.std.specs.Prelude.{Option, Some, None}
@@ -9,8 +9,6 @@ use Rattle.std.specs.declared.cmp.Ordering.{Ordering}
 use Rattle.std.specs.declared.cmp.Ordering.TheVariants.{Less, Equal, Greater}
 use Rattle.std.proofs.lemmas.Cmp.{nat_list_cmp_total, on_total, then_total}
 use Rattle.std.proofs.lemmas.Map.Keys.{sorted_head, sorted_tail}
-use Rattle.bts_names.specs.Names.{ActivityPath, Name}
-use Rattle.bts_names.specs.declared.key.Key.{Key}
 use Rattle.bts_tree.proofs.Slots.{key_total}
 use Rattle.bts_tree.specs.Repositories.{Place, TimerPlace, place_cmp, timer_place_cmp, is_behind, first_behind, IsLeastBehind, HasNoneBehind}
 

@@ -1,5 +1,5 @@
 -- What is new is sound.
-use Rattle.std.proofs.Common.{◌≡◌, ◌≤◌, true, false, List, [], ◌∷◌, ℕ, refl, arith}
+use Rattle.std.proofs.Common.{[], ◌∷◌, refl, arith}
 use Rattle.std.specs.Cmp.Lexicographic.{slice_cmp}
 use Rattle.std.specs.List.{IsDistinct}
 use Rattle.std.specs.List.Sorted.{IsStrictlySortedBy}
@@ -9,11 +9,11 @@ use Rattle.bts_container.specs.Containers.{IsPool}
 use Rattle.bts_event.specs.Pool.{empty_pool}
 use Rattle.bts_event.specs.Sound.{IsSoundPool}
 use Rattle.bts_names.specs.Keys.{key_cmp}
-use Rattle.bts_names.specs.Names.{Name, ActivityPath, same}
+use Rattle.bts_names.specs.Names.{Name, same}
 use Rattle.bts_names.specs.declared.key.Key.{Key}
-use Rattle.bts_tree.specs.Activities.{Activities, new_root}
+use Rattle.bts_tree.specs.Activities.{new_root}
 use Rattle.bts_tree.specs.Processes.{no_process, planted}
-use Rattle.bts_tree.specs.Soundness.{AreSound, IsSoundActivity, IsSoundInFrames, IsSoundTree, FitsParent, FitsChildren}
+use Rattle.bts_tree.specs.Soundness.{AreSound, IsSoundActivity, IsSoundInFrames, IsSoundTree}
 
 module _ {X : Type 0} where
   sorted_none : (c : X → X → Ordering) → IsStrictlySortedBy c []

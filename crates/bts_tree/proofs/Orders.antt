@@ -6,7 +6,7 @@ use Rattle.std.specs.List.{AllByRecursion, filter, flat_map}
 use Rattle.std.specs.List.Sorted.{IsStrictlySortedBy}
 use Rattle.std.specs.Map.{keys_of}
 use Rattle.std.specs.Option.{unwrap_or}
-use Rattle.std.specs.Ordering.{nat_cmp, ordering_then, ordering_reverse, is_gt}
+use Rattle.std.specs.Ordering.{nat_cmp, ordering_then, ordering_reverse}
 use Rattle.std.specs.Prelude.{Option, Some, None, map}
 use Rattle.std.specs.declared.cmp.Ordering.{Ordering}
 use Rattle.std.specs.declared.cmp.Ordering.TheVariants.{Less, Equal, Greater}
@@ -21,7 +21,7 @@ use Rattle.bts_timer.specs.declared.timer.Timer.{Timer}
 use Rattle.bts_tree.proofs.Slots.{key_total}
 use Rattle.bts_tree.specs.Activities.{Activities}
 use Rattle.bts_tree.specs.Processes.{Process, activities}
-use Rattle.bts_tree.specs.Repositories.{Processes, Place, TimerPlace, place_cmp, timer_place_cmp, chosen_at, chosen_of, chosen, due_at, due_among, due_of, due_in, keys_of_processes}
+use Rattle.bts_tree.specs.Repositories.{Processes, Place, TimerPlace, place_cmp, timer_place_cmp, chosen_at, chosen_of, chosen, due_at, due_among, due_of, due_in}
 use Rattle.bts_tree.specs.Soundness.{AreSound, IsSoundInFrames, IsSoundActivity, IsSoundUnder}
 use Rattle.bts_tree.specs.declared.activity.Activity.{Activity}
 

@@ -1,5 +1,5 @@
 -- Paths of children.
-use Rattle.std.proofs.Common.{◌≡◌, List, [], ◌∷◌, ◌++◌, ℕ, ◌+◌, ◌-◌, suc, length, take, refl, ap, sym, ◌∙◌, length-append, arith}
+use Rattle.std.proofs.Common.{◌≡◌, [], ◌∷◌, ◌++◌, ℕ, ◌-◌, length, take, refl, ap, ◌∙◌, length-append, arith}
 use Rattle.bts_names.specs.Names.{ActivityPath}
 use Rattle.bts_tree.specs.Paths.{parent_of}
 

@@ -1,4 +1,4 @@
-use Rattle.std.proofs.Common.{rules, ◌≡◌, true, sym, ap}
+use Rattle.std.proofs.Common.{rules, ◌≡◌, true, sym}
 use Rattle.std.specs.Prelude.{Some, None}
 use Rattle.bts_timer.specs.Timers.{due_until}
 use Rattle.bts_tree.proofs.Finds.{first_due, nothing_due}

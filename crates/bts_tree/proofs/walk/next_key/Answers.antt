@@ -1,4 +1,4 @@
-use Rattle.std.proofs.Common.{rules, ◌≡◌, ◌∷◌, sym, ◌∙◌, ap}
+use Rattle.std.proofs.Common.{rules, ◌≡◌, ◌∷◌, ◌∙◌, ap}
 use Rattle.std.specs.Prelude.{Some, None}
 use Rattle.bts_names.specs.Keys.{key_cmp}
 use Rattle.bts_tree.proofs.Finds.{first_part, next_part}
