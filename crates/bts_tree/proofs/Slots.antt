@@ -21,7 +21,7 @@ use Rattle.bts_names.proofs.Sameness.{keys_same_where_equal}
 use Rattle.bts_names.specs.declared.key.Key.{Key}
 use Rattle.bts_tree.specs.Keeping.{Slots, process_of, in_front, processes_of, process_or_none, kept_of, slots_of, slot_of, activities_in, keys_in, generation_in, stored_in}
 use Rattle.bts_tree.specs.Processes.{Process, no_process}
-use Rattle.bts_tree.specs.Repositories.{Processes, same_key, process_at, placed_by_key, without_key, put, keys_of_processes, chosen, chosen_at, due_in, due_among, rows, row_of, has_room, with_room, put_held, stored_of, Stored}
+use Rattle.bts_tree.specs.Repositories.{Processes, same_key, is_defined, process_at, placed_by_key, without_key, put, keys_of_processes, chosen, chosen_at, due_in, due_among, rows, row_of, has_room, with_room, put_held, stored_of, Stored}
 use Rattle.bts_tree.specs.Scopes.{HeldProcess}
 use Rattle.bts_tree.specs.declared.activity.Activity.{Activity}
 use Rattle.bts_tree.specs.declared.kept.Kept.{Kept}
@@ -74,6 +74,25 @@ found_at key (e ∷ es) s = by e.1 (same_key key e.0) refl (found_at key es (sor
     by None false h i = i
     by (Some k) true h i = ap (λ b. cond b (process_of e.0 k) (process_at key (processes_of es))) h ∙ ap (λ x. process_of x k) (sym (same_key_exact key e.0 h))
     by (Some k) false h i = ap (λ b. cond b (process_of e.0 k) (process_at key (processes_of es))) h ∙ i
+
+none_defined : (key : Key) (es : Slots) → HasNone key es → is_defined key (processes_of es) ≡ false
+none_defined key [] n = refl
+none_defined key (e ∷ es) n = by e.1 (none_defined key es n.1)
+  where
+    by : (slot : Option Kept) → is_defined key (processes_of es) ≡ false → is_defined key (in_front e.0 slot (processes_of es)) ≡ false
+    by None i = i
+    by (Some k) i = ap (λ b. b || is_defined key (processes_of es)) n.0 ∙ i
+
+pub defined_at : (key : Key) (es : Slots) → IsRising es → is_defined key (processes_of es) ≡ is_some (flat (lookup (same_key key) es))
+defined_at key [] s = refl
+defined_at key (e ∷ es) s = by e.1 (same_key key e.0) refl (defined_at key es (sorted_tail key_cmp e.0 (keys_of es) s))
+  where
+    by : (slot : Option Kept) (b : Bool) → same_key key e.0 ≡ b → is_defined key (processes_of es) ≡ is_some (flat (lookup (same_key key) es))
+        → is_defined key (in_front e.0 slot (processes_of es)) ≡ is_some (flat (cond b (Some slot) (lookup (same_key key) es)))
+    by None true h i = none_defined key es (past_head key e es s h)
+    by None false h i = i
+    by (Some k) true h i = ap (λ b. b || is_defined key (processes_of es)) h
+    by (Some k) false h i = ap (λ b. b || is_defined key (processes_of es)) h ∙ i
 
 -- ---- a slot that is written
 

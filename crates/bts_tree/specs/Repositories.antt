@@ -41,6 +41,10 @@ abbrev pub process_at : Key → Processes → Process
 process_at key [] = no_process key
 process_at key (s ∷ repo) = cond (same_key key s.key) s (process_at key repo)
 
+-- whether a process stands under a key
+abbrev pub is_defined : Key → Processes → Bool
+is_defined key repo = list_any (same_key key) (keys_of_processes repo)
+
 -- the list with this process under its key
 abbrev pub placed_by_key : Process → Processes → Processes
 placed_by_key s [] = s ∷ []

@@ -1,8 +1,8 @@
 // All processes.
-ghost use Rattle.std.specs.Prelude.{◌≡◌, ◌↔◌, [], IsTrue, IfOk, OnOk, OnErr, is_some, Some, None, true, map};
+ghost use Rattle.std.specs.Prelude.{◌≡◌, ◌↔◌, [], IsTrue, IfOk, OnOk, OnErr, IfSome, is_some, Some, None, true, map};
 ghost use Rattle.std.specs.List.Sorted.{IsStrictlySortedBy};
 ghost use Rattle.std.specs.Map.{keys_of, lookup, set_value};
-ghost use Rattle.std.specs.Option.{option_copied, unwrap_or};
+ghost use Rattle.std.specs.Option.{option_copied};
 ghost use Rattle.bts_names.specs.Keys.{key_cmp};
 ghost use Rattle.bts_tree.specs.Keeping as keeping;
 ghost use Rattle.bts_tree.specs.Processes as process;
@@ -81,7 +81,9 @@ impl Repository {
 
     /// The containers of a process; None where the key was never defined.
     pub fn containers(&self, key: &Key) -> Option<&ContainerPool>
-        ensures { unwrap_or (option_copied result) [] ≡ (repo.process_at key.now self.now.processes).containers }
+        ensures there { is_some result ≡ repo.is_defined key.now self.now.processes }
+        ensures value { IfSome result
+            (λ c. c.now ≡ (repo.process_at key.now self.now.processes).containers) }
     {
         match kept(&self.map, key) {
             Some(kept) => Some(&kept.containers),
@@ -204,7 +206,8 @@ fn slots_of(alloc: Global, scopes: Vec<Scope>) -> Result<Vec<(Key, Option<Kept>)
 }
 
 fn kept<'a>(map: &'a BTreeMap<Key, Option<Kept>>, key: &Key) -> Option<&'a Kept>
-    ensures { keeping.process_or_none key.now (option_copied result)
+    ensures there { is_some result ≡ repo.is_defined key.now (keeping.processes_of map.now.entries) }
+    ensures process { keeping.process_or_none key.now (option_copied result)
         ≡ repo.process_at key.now (keeping.processes_of map.now.entries) }
 {
     // So it is known here that the keys rise.

@@ -173,7 +173,7 @@ impl Scope {
         ensures err { OnErr result (self.new ≡ self.old) }
         ensures marked { IfErr result (λ _. scope.HasMarks self.old) }
     {
-        let _ = path.is_prefix_of(path) && below;
+        // No mark stands, so every path is saved.
         let _ = &self.tree;
         Ok(())
     }
