@@ -1,7 +1,9 @@
 // What no clause says: that the calls succeed where there is memory.
 use crate::{Activity, Repository, Scope, Tree};
 use bts_container::ContainerPool;
-use bts_names::{Key, Moment, Name16, Path, ProcName, ProcType, ProgName, Status, Transid};
+use bts_names::{
+    Key, Moment, Name16, NoMemory, Path, ProcName, ProcType, ProgName, Status, Transid,
+};
 use std::alloc::Global;
 use std::test::Fail;
 
@@ -112,9 +114,7 @@ fn count(scope: &Scope) -> usize {
 #[test]
 fn a_process_grows_and_shrinks(rt: HostRuntime) -> Result<(), Fail> {
     let alloc = rt.alloc();
-    let Some(key) = key_named("P") else {
-        return Ok(());
-    };
+    let key = key_named("P").ok_or(NoMemory)?;
     let mut scope = Scope::undefined(alloc, key);
     assert!(rt; grows(alloc, &mut scope));
     assert_eq!(rt; scope.generation(), 1);
@@ -148,9 +148,7 @@ fn completes_below(scope: &Scope) -> bool {
 #[test]
 fn children_are_found_and_complete(rt: HostRuntime) -> Result<(), Fail> {
     let alloc = rt.alloc();
-    let Some(key) = key_named("P") else {
-        return Ok(());
-    };
+    let key = key_named("P").ok_or(NoMemory)?;
     let mut scope = Scope::undefined(alloc, key);
     assert!(rt; grows(alloc, &mut scope));
     assert!(rt; knows_its_children(&scope));
@@ -174,9 +172,7 @@ fn puts_container(alloc: Global, scope: &mut Scope) -> bool {
 #[test]
 fn copies_are_the_same_until_one_changes(rt: HostRuntime) -> Result<(), Fail> {
     let alloc = rt.alloc();
-    let Some(key) = key_named("P") else {
-        return Ok(());
-    };
+    let key = key_named("P").ok_or(NoMemory)?;
     let mut scope = Scope::undefined(alloc, key);
     assert!(rt; grows(alloc, &mut scope));
     let mut repo = Repository::empty(alloc);
@@ -193,9 +189,7 @@ fn copies_are_the_same_until_one_changes(rt: HostRuntime) -> Result<(), Fail> {
 #[test]
 fn a_repository_tells_what_it_holds(rt: HostRuntime) -> Result<(), Fail> {
     let alloc = rt.alloc();
-    let Some(key) = key_named("P") else {
-        return Ok(());
-    };
+    let key = key_named("P").ok_or(NoMemory)?;
     let root = Path::root();
     let mut scope = Scope::undefined(alloc, key);
     assert!(rt; grows(alloc, &mut scope));
@@ -287,12 +281,8 @@ fn of_parts(alloc: Global, key: Key) -> Option<Scope> {
 #[test]
 fn a_repository_is_made_of_its_parts(rt: HostRuntime) -> Result<(), Fail> {
     let alloc = rt.alloc();
-    let Some(key) = key_named("P") else {
-        return Ok(());
-    };
-    let Some(scope) = of_parts(alloc, key) else {
-        return Ok(());
-    };
+    let key = key_named("P").ok_or(NoMemory)?;
+    let scope = of_parts(alloc, key).ok_or(NoMemory)?;
     let mut scopes = Vec::new(alloc);
     scopes.push(scope)?;
     let repo = Repository::from_scopes(alloc, scopes)?;

@@ -7,5 +7,5 @@ use Rattle.bts_tree.proofs.tests.a_repository_is_made_of_its_parts.Goals as goal
 
 pub from_scopes-requires : goal.from_scopes-requires
 from_scopes-requires g c =
-    let items : c.push.new.self.items ≡ c.in-Some-of_parts.scope ∷ [] = search rules in
-    subst (λ hs. IsStrictlySortedBy key_cmp (map (λ h. h.process.key) hs)) (sym items) (sorted_one key_cmp c.in-Some-of_parts.scope.process.key)
+    let items : c.push.new.self.items ≡ c.in_ok-scope.scope ∷ [] = search rules in
+    subst (λ hs. IsStrictlySortedBy key_cmp (map (λ h. h.process.key) hs)) (sym items) (sorted_one key_cmp c.in_ok-scope.scope.process.key)
