@@ -1,0 +1,4 @@
+pub mod Order
+pub mod Parts
+pub mod Edits
+pub mod JoinJoin
