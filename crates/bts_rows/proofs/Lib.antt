@@ -2,3 +2,5 @@ pub mod Order
 pub mod Parts
 pub mod Edits
 pub mod JoinJoin
+pub mod Keeps
+pub mod PoolKeeps
