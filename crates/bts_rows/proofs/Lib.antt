@@ -4,3 +4,5 @@ pub mod Edits
 pub mod JoinJoin
 pub mod Keeps
 pub mod PoolKeeps
+pub mod Entries
+pub mod TimerEvents
