@@ -5,4 +5,6 @@ pub mod JoinJoin
 pub mod Keeps
 pub mod PoolKeeps
 pub mod Entries
+pub mod Ordered
 pub mod TimerEvents
+pub mod TimerCalls
