@@ -8,3 +8,5 @@ pub mod Entries
 pub mod Ordered
 pub mod TimerEvents
 pub mod TimerCalls
+pub mod Written
+pub mod InPlace

@@ -77,11 +77,11 @@ pub there_case : {X : Type 0} (P : Type 0) (o : Option X) → is_some o ≡ true
 there_case P None h f = cc
 there_case P (Some x) h f = f x refl
 
-or_true : (a b : Bool) → a ≡ true → (not a || b) ≡ true → b ≡ true
+pub or_true : (a b : Bool) → a ≡ true → (not a || b) ≡ true → b ≡ true
 or_true true b e h = h
 or_true false b e h = cc
 
-not_so : (b : Bool) → not b ≡ true → b ≡ false
+pub not_so : (b : Bool) → not b ≡ true → b ≡ false
 not_so true h = cc
 not_so false h = refl
 
@@ -122,11 +122,11 @@ module _ (a : Activity) (timers_rise : IsRising (keys_of a.timers)) (events_rise
 
 -- ---- and back
 
-if_so : (b c : Bool) → (b ≡ true → c ≡ true) → (not b || c) ≡ true
+pub if_so : (b c : Bool) → (b ≡ true → c ≡ true) → (not b || c) ≡ true
 if_so true c f = f refl
 if_so false c f = refl
 
-so_not : (b : Bool) → b ≡ false → not b ≡ true
+pub so_not : (b : Bool) → b ≡ false → not b ≡ true
 so_not b h = rw h
 
 pub record IsTimers (v : Event) : Type 0 where
