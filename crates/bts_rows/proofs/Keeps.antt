@@ -84,10 +84,14 @@ module _ (test : Trigger → Bool) where
   fired_picked true o = picked_bit true o
   fired_picked false o = refl
 
+  -- a firing leaves what fires each event
+  pub picked-fired : (es : Events) (c n : Name) → picked test (lookup n (set_bit es c true)) ≡ picked test (lookup n es)
+  picked-fired es c n = ap (picked test) (lookup-change es c n (with_bit true)) ∙ fired_picked (same c n) (lookup n es)
+
   -- the firing of an event that isn't picked
   pub keeps_fired : (es : Events) (c : Name) → is_picked test (lookup c es) ≡ false → Keeps test es (set_bit es c true)
   keeps_fired es c h = record {
-    triggers = λ n. ap (picked test) (lookup-change es c n (with_bit true)) ∙ fired_picked (same c n) (lookup n es);
+    triggers = picked-fired es c;
     unfired = λ n p u. ap is_fired_atomic (lookup-change es c n (with_bit true))
         ∙ fired_case (same c n) (lookup n es) (λ e. subst (λ m. is_picked test (lookup m es) ≡ false) (same_exact c n e) h) p u;
   }

@@ -10,3 +10,4 @@ pub mod TimerEvents
 pub mod TimerCalls
 pub mod Written
 pub mod InPlace
+pub mod PoolChanges

@@ -10,15 +10,15 @@ use Rattle.bts_event.specs.declared.event.Event.{Event}
 use Rattle.bts_event.specs.declared.event.Event.TheVariants.{Atomic as atomic, Composite as composite}
 use Rattle.bts_event.specs.declared.event.Trigger.{Trigger}
 use Rattle.bts_event.specs.declared.queue.Entry.{Entry}
-use Rattle.bts_event.specs.Events.{Events, change, holder, is_fired_atomic, is_input, with_rest, with_sub, without_sub}
-use Rattle.bts_event.specs.Pool.{Pool, defined, deleted, first_taken, next_subevent, parted, retrieved, settled, subevent_added, subevent_removed, subevent_retrieved, subevent_taken}
+use Rattle.bts_event.specs.Events.{Events, change, holder, is_fired_atomic, is_input, with_queued, with_rest, with_sub, without_sub}
+use Rattle.bts_event.specs.Pool.{Pool, defined, deleted, fired, first_taken, next_subevent, parted, placed, retrieved, settled, subevent_added, subevent_removed, subevent_retrieved, subevent_taken}
 use Rattle.bts_event.specs.Refusals.{composite_refusal, define_refusal, delete_refusal, delete_refusal_of, or_else}
 use Rattle.bts_event.proofs.Bits.{not_when}
 use Rattle.bts_event.proofs.Defines.{none_from}
 use Rattle.bts_event.proofs.NewComposites.{or_none}
 use Rattle.bts_event.proofs.Orders.{IsRising}
 use Rattle.bts_event.proofs.Readings.{keys-change}
-use Rattle.bts_rows.proofs.Keeps.{Keeps, is_owned, is_picked, keeps_both, keeps_change, keeps_cleared, keeps_equal, keeps_put, keeps_same, keeps_without, picked, settled-events}
+use Rattle.bts_rows.proofs.Keeps.{Keeps, is_owned, is_picked, keeps_both, keeps_change, keeps_cleared, keeps_equal, keeps_fired, keeps_put, keeps_same, keeps_without, picked, picked-fired, settled-events}
 
 -- ---- what a change of a composite leaves
 
@@ -53,6 +53,16 @@ module _ (test : Trigger → Bool) where
   with_rest_fired (Some (atomic a)) u = u
   with_rest_fired (Some (composite c)) u = u
 
+  with_queued_picked : (s : Name) (o : Option Event) → picked test (option_map (with_queued s) o) ≡ picked test o
+  with_queued_picked s None = refl
+  with_queued_picked s (Some (atomic a)) = refl
+  with_queued_picked s (Some (composite c)) = refl
+
+  with_queued_fired : (s : Name) (o : Option Event) → is_fired_atomic o ≡ false → is_fired_atomic (option_map (with_queued s) o) ≡ false
+  with_queued_fired s None u = u
+  with_queued_fired s (Some (atomic a)) u = u
+  with_queued_fired s (Some (composite c)) u = u
+
   -- ---- the calls
 
   -- a new event that isn't picked, under a name that is free
@@ -65,11 +75,11 @@ module _ (test : Trigger → Bool) where
   pub keeps_removed : (c s : Name) (p : Pool) → Keeps test p.events (subevent_removed c s p).events
   keeps_removed c s p = keeps_equal test p.events _ _ (settled-events p.events _) (keeps_change test (without_sub s) p.events c (without_sub_picked s) (without_sub_fired s))
 
-  parted_keeps : (n : Name) (o : Option Name) (es : Events) → Keeps test es (parted n o es)
+  pub parted_keeps : (n : Name) (o : Option Name) (es : Events) → Keeps test es (parted n o es)
   parted_keeps n None es = keeps_same test es
   parted_keeps n (Some c) es = keeps_change test (without_sub n) es c (without_sub_picked n) (without_sub_fired n)
 
-  parted_rising : (n : Name) (o : Option Name) (es : Events) → IsRising (keys_of es) → IsRising (keys_of (parted n o es))
+  pub parted_rising : (n : Name) (o : Option Name) (es : Events) → IsRising (keys_of es) → IsRising (keys_of (parted n o es))
   parted_rising n None es s = s
   parted_rising n (Some c) es s = subst IsRising (sym (keys-change es c (without_sub n))) s
 
@@ -80,6 +90,23 @@ module _ (test : Trigger → Bool) where
       let k : Keeps test p.events es = parted_keeps n (holder p.events n) p.events in
       keeps_equal test p.events _ _ (settled-events p.events _)
       (keeps_both test p.events es _ k (keeps_without test es n (parted_rising n (holder p.events n) p.events s) (ap is_some (k.triggers n) ∙ h)))
+
+  pub placed_keeps : (n : Name) (o : Option Name) (p : Pool) → Keeps test p.events (placed n o p).events
+  placed_keeps n None p = keeps_same test p.events
+  placed_keeps n (Some c) p = keeps_change test (with_queued n) p.events c (with_queued_picked n) (with_queued_fired n)
+
+  -- an event that isn't picked fires
+  pub keeps_firing : (n : Name) (p : Pool) → is_picked test (lookup n p.events) ≡ false → Keeps test p.events (fired n p).events
+  keeps_firing n p h =
+      let es : Events = (placed n (holder p.events n) p).events in
+      let k : Keeps test p.events es = placed_keeps n (holder p.events n) p in
+      keeps_equal test p.events _ _ (settled-events p.events _) (keeps_both test p.events es _ k (keeps_fired test es n (ap is_some (k.triggers n) ∙ h)))
+
+  -- a firing leaves what fires each event
+  pub picked-firing : (n : Name) (p : Pool) (m : Name) → picked test (lookup m (fired n p).events) ≡ picked test (lookup m p.events)
+  picked-firing n p m =
+      let es : Events = (placed n (holder p.events n) p).events in
+      ap (λ fs. picked test (lookup m fs)) (settled-events p.events _) ∙ picked-fired test es n m ∙ (placed_keeps n (holder p.events n) p).triggers m
 
   first_keeps : (entries : List Entry) (p : Pool) → Keeps test p.events (first_taken entries p).events
   first_keeps [] p = keeps_same test p.events
