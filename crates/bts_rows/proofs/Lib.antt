@@ -11,3 +11,4 @@ pub mod TimerCalls
 pub mod Written
 pub mod InPlace
 pub mod PoolChanges
+pub mod ContainerChanges
