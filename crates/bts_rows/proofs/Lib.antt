@@ -12,3 +12,5 @@ pub mod Written
 pub mod InPlace
 pub mod PoolChanges
 pub mod ContainerChanges
+pub mod Frames
+pub mod ActSound

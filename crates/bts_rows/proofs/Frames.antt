@@ -1,0 +1,2 @@
+-- try
+use Rattle.std.proofs.Common.{refl}
