@@ -119,7 +119,7 @@ module _ (a : Activity) (s : IsSoundActivity a) where
 
 -- ---- a call that isn't refused
 
-unless_none : (o : Option Reason) (after before : Pool) → o ≡ None → calls.unless o after before ≡ after
+pub unless_none : (o : Option Reason) (after before : Pool) → o ≡ None → calls.unless o after before ≡ after
 unless_none o after before h = ap (λ x. calls.unless x after before) h
 
 pub sound_define : (n : Name) (t : Trigger) (p : Pool) → IsSoundPool p → define_refusal n p.events ≡ None → same n initial_name ≡ false → IsSoundPool (defined n (new_atomic t) p)
