@@ -36,7 +36,10 @@ use Rattle.bts_tree.specs.Soundness.{IsSoundInFrames, IsSoundUnder, IsSoundActiv
 use Rattle.bts_rows.specs.declared.held.Held.{Held}
 use Rattle.bts_rows.specs.Targets.{AtActivity, Here, Named, Store, at_named, at_own, at_path, at_place, at_target, containers_of, in_activity, in_request, is_read_only, named_by, none, of_activity, of_process, path, stored, with_stored}
 use Rattle.bts_rows.specs.ActRows as row
+use Rattle.bts_rows.specs.Rows.{act_at}
 use Rattle.bts_rows.specs.Given.{IsGiven, is_systems, names_in, subs_in}
+use Rattle.bts_rows.proofs.Edits.{HasOrder}
+use Rattle.bts_rows.proofs.Frames.{act_on_whole}
 use Rattle.bts_rows.proofs.ContainerChanges.{pool_delete, pool_put}
 use Rattle.bts_rows.proofs.InPlace.{FitsIn, edited_keeps_soundness, stands_at}
 use Rattle.bts_rows.proofs.Keeps.{Keeps, is_owned}
@@ -334,3 +337,14 @@ module _ (frames : List ActivityPath) (s : Process) (sound : IsSoundInFrames fra
   act_row_sound here now (command.CheckTimer t) i g = sound_check here t
   act_row_sound here now (command.DeleteTimer t) i g = sound_delete_timer here t
   act_row_sound here now _ i g = sound
+
+-- ---- in a frame
+
+order_case : (s : Process) (o : Option Activities) → IsSoundUnder s o → HasOrder o
+order_case s None u = tt
+order_case s (Some t) u = (u.0).paths_rise
+
+pub act_at_sound : (frames : List ActivityPath) (p : ActivityPath) (now : ℕ) (s : Process) (c : Command) → is_some (activity_at p s) ≡ true → IsGiven c → IsSoundInFrames frames s
+    → IsSoundInFrames frames (left_by s (act_at p now s c))
+act_at_sound frames p now s c i g sound =
+    subst (λ x. IsSoundInFrames frames (left_by s x)) (sym (act_on_whole p now s c (order_case s s.tree sound.tree))) (act_row_sound frames s sound (in_activity p) now c i g)

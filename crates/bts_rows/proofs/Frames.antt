@@ -25,12 +25,13 @@ use Rattle.bts_event.specs.Refusals as refusals
 use Rattle.bts_timer.specs.Due.{is_unexpired_status}
 use Rattle.bts_timer.specs.Timers.{force_refusal, status_or_missing}
 use Rattle.bts_tree.specs.declared.activity.Activity.{Activity}
+use Rattle.bts_tree.specs.Activities.{Activities}
 use Rattle.bts_tree.specs.Paths.{leads_to, is_child_of}
 use Rattle.bts_tree.specs.Processes.{Process, activities, activity_at, child_of, edited, part, join, with_pool}
 use Rattle.bts_rows.specs.Targets.{AtActivity, Here, Named, Store, at_named, at_own, at_path, at_place, at_target, containers_of, in_activity, in_request, is_read_only, named_by, named_child, none, of_activity, of_process, path, stored, with_stored}
 use Rattle.bts_rows.specs.ActRows as row
 use Rattle.bts_rows.specs.Rows.{act_at}
-use Rattle.bts_rows.proofs.Order.{leads_own}
+use Rattle.bts_rows.proofs.Order.{IsInOrder, leads_own}
 use Rattle.bts_rows.proofs.Parts.{activity_at-part, child_of-part, part_root}
 use Rattle.bts_rows.proofs.Edits.{HasOrder, join_edited, join_part}
 
@@ -295,3 +296,10 @@ module _ (n : ℕ) (p : ActivityPath) (s : Process) (order : HasOrder s.tree) wh
 pub act_on_whole : (p : ActivityPath) (now : ℕ) (s : Process) (c : Command) → HasOrder s.tree → act_at p now s c ≡ row.act_row (in_activity p) now s c
 act_on_whole [] now s c order = mapped_same (join [] s) (λ x. refl) (row.act_row (in_activity []) now (part [] s) c) ∙ ap (λ z. row.act_row (in_activity []) now z c) (part_root s)
 act_on_whole (n ∷ p) now s c order = row_joined n p s order now c
+
+ordered_case : (o : Option Activities) → IsInOrder (unwrap_or o []) → HasOrder o
+ordered_case None h = tt
+ordered_case (Some t) h = h
+
+pub act_in_order : (p : ActivityPath) (now : ℕ) (s : Process) (c : Command) → IsInOrder (activities s) → act_at p now s c ≡ row.act_row (in_activity p) now s c
+act_in_order p now s c h = act_on_whole p now s c (ordered_case s.tree h)
