@@ -279,7 +279,7 @@ module _ (frames : List ActivityPath) (s : Process) (sound : IsSoundInFrames fra
         (fits_timer t (unwrap_or e t) (row.due_at now due) a (own_sound p a h) no_timer (define_allowed (unwrap_or e t) a.pool.events no_event room) n)
 
     forced_by : (t : Name) (p : ActivityPath) (a : Activity) → activity_at p s ≡ Some a
-        → LeavesSound (refuse resp.Timererr for force_refusal t a.timers otherwise done value.Nothing (edited p (row.with_forced t) s))
+        → LeavesSound (row.forcing s t p a)
     forced_by t p a h =
         sound_for resp.Timererr (force_refusal t a.timers) _ λ r.
         let x = running_case (lookup t a.timers) t a.timers refl r in

@@ -236,17 +236,12 @@ module _ (n : ℕ) (p : ActivityPath) (s : Process) (order : HasOrder s.tree) wh
       (mapped_when whole resp.Eventerr reason.Limit (refusals.is_full a.pool.events) (refusals.is_full a.pool.events) _ _ refl
       (edited_joined (n ∷ p) s order value.Nothing q (row.with_timer t (unwrap_or e t) (row.due_at now due)) l)))))
 
-  abbrev forcing : Name → Process → AtActivity
-  forcing t z q a =
-      refuse resp.Timererr for force_refusal t a.timers otherwise
-      done value.Nothing (edited q (row.with_forced t) z)
-
-  forced_joined : (t : Name) (q : ActivityPath) (a : Activity) → leads_to (n ∷ p) q ≡ true → mapped whole (forcing t own q a) ≡ forcing t s q a
+  forced_joined : (t : Name) (q : ActivityPath) (a : Activity) → leads_to (n ∷ p) q ≡ true → mapped whole (row.forcing own t q a) ≡ row.forcing s t q a
   forced_joined t q a l = mapped_for whole resp.Timererr (force_refusal t a.timers) _ _ (edited_joined (n ∷ p) s order value.Nothing q (row.with_forced t) l)
 
   force_joined : (t : Name) (target : Option Target) → mapped whole (row.force_timer_row here own t target) ≡ row.force_timer_row here s t target
-  force_joined t None = own_joined (n ∷ p) s order (forcing t) (forced_joined t)
-  force_joined t (Some target) = target_joined (n ∷ p) s order target (forcing t own) (forcing t s) (forced_joined t)
+  force_joined t None = own_joined (n ∷ p) s order (λ z. row.forcing z t) (forced_joined t)
+  force_joined t (Some target) = target_joined (n ∷ p) s order target (row.forcing own t) (row.forcing s t) (forced_joined t)
 
   checked_joined : (t : Name) (status : TimerStatus) (q : ActivityPath) (b : Bool) → leads_to (n ∷ p) q ≡ true
       → mapped whole (done (value.Timer status) (cond b own (edited q (row.without_timer t) own))) ≡ done (value.Timer status) (cond b s (edited q (row.without_timer t) s))

@@ -14,3 +14,5 @@ pub mod PoolChanges
 pub mod ContainerChanges
 pub mod Frames
 pub mod ActSound
+pub mod Proper
+pub mod ProperRows

@@ -24,7 +24,7 @@ use Rattle.bts_timer.specs.Due.{is_unexpired_status}
 use Rattle.bts_timer.specs.Timers.{force_refusal, started, status_or_missing, with_status}
 use Rattle.bts_tree.specs.declared.activity.Activity.{Activity}
 use Rattle.bts_tree.specs.Processes.{Process, edited, with_pool}
-use Rattle.bts_rows.specs.Targets.{Here, at_own, at_target, at_place, is_read_only, stored, with_stored}
+use Rattle.bts_rows.specs.Targets.{AtActivity, Here, at_own, at_target, at_place, is_read_only, stored, with_stored}
 
 -- ---- containers
 
@@ -135,15 +135,14 @@ define_timer_row here now s t event due =
     done value.Nothing (edited p (with_timer t e (due_at now due)) s)
 
 -- only in an activity's frame where there is no target
-abbrev pub at_own_or_target : Here → Process → Option Target → (List ℕ → Activity → Answer Process) → Answer Process
-at_own_or_target here s None rest = at_own here s rest
-at_own_or_target here s (Some target) rest = at_target here s target rest
-
-abbrev pub force_timer_row : Here → Process → Name → Option Target → Answer Process
-force_timer_row here s t target =
-    at_own_or_target here s target λ p a.
+abbrev pub forcing : Process → Name → AtActivity
+forcing s t p a =
     refuse resp.Timererr for force_refusal t a.timers otherwise
     done value.Nothing (edited p (with_forced t) s)
+
+abbrev pub force_timer_row : Here → Process → Name → Option Target → Answer Process
+force_timer_row here s t None = at_own here s (forcing s t)
+force_timer_row here s t (Some target) = at_target here s target (forcing s t)
 
 abbrev pub check_timer_row : Here → Process → Name → Answer Process
 check_timer_row here s t =

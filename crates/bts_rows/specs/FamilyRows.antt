@@ -110,11 +110,15 @@ check_row here s target =
     at_target here s target λ p a.
     done (value.Activity a.mode a.status a.suspended a.code) (cond (is_child target && is_complete a) (told p s) s)
 
-abbrev pub cancel_row : Here → Process → Target → Answer Process
-cancel_row here s target =
+-- a change of a target that isn't COMPLETE
+abbrev pub unless_complete : Here → Process → Target → (ActivityPath → Process) → Answer Process
+unless_complete here s target change =
     at_target here s target λ p a.
     refuse resp.Activityerr because reason.Mode when is_complete a otherwise
-    done value.Nothing (complete p status.Forced None s)
+    done value.Nothing (change p)
+
+abbrev pub cancel_row : Here → Process → Target → Answer Process
+cancel_row here s target = unless_complete here s target λ p. complete p status.Forced None s
 
 -- whether a name stands for another event than the completion event of a child
 abbrev pub is_other : ℕ → Option Event → Bool
@@ -156,10 +160,7 @@ reset_row here s target =
     done value.Nothing (with_completion p a.completion (edited p (renewed (is_none a.completion)) (removed p false s)))
 
 abbrev pub suspension_row : Bool → Here → Process → Target → Answer Process
-suspension_row to here s target =
-    at_target here s target λ p a.
-    refuse resp.Activityerr because reason.Mode when is_complete a otherwise
-    done value.Nothing (edited p (λ b. record b { suspended = to }) s)
+suspension_row to here s target = unless_complete here s target λ p. edited p (λ b. record b { suspended = to }) s
 
 -- ---- the table
 
