@@ -16,3 +16,4 @@ pub mod Frames
 pub mod ActSound
 pub mod Proper
 pub mod ProperRows
+pub mod Examples

@@ -10,4 +10,7 @@ mod held;
 mod laws;
 
 pub use held::Held;
-pub use laws::{a_frame_reads_its_part, commands_of_one_activity_keep_soundness};
+pub use laws::{
+    a_frame_reads_its_part, a_refused_command_changes_nothing, commands_of_one_activity_keep_soundness,
+    replies_say_why,
+};
