@@ -43,7 +43,8 @@ use Rattle.bts_rows.proofs.Frames.{act_on_whole}
 use Rattle.bts_rows.proofs.ContainerChanges.{pool_delete, pool_put}
 use Rattle.bts_rows.proofs.InPlace.{FitsIn, edited_keeps_soundness, stands_at}
 use Rattle.bts_rows.proofs.Keeps.{Keeps, is_owned}
-use Rattle.bts_rows.proofs.PoolChanges.{fits_containers, fits_forced, fits_pool, fits_timer, fits_without, sound_define, unless_none}
+use Rattle.bts_rows.proofs.Fits.{fits_containers, fits_pool, sound_define, unless_none}
+use Rattle.bts_rows.proofs.TimerFits.{fits_forced, fits_timer, fits_without}
 use Rattle.bts_rows.proofs.PoolKeeps.{composite_free, define_free, delete_unowned, keeps_added, keeps_defined, keeps_deleted, keeps_removed, keeps_retrieved, keeps_subevent_retrieved}
 
 -- the activity of an activity's frame is there

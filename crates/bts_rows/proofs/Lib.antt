@@ -10,7 +10,8 @@ pub mod TimerEvents
 pub mod TimerCalls
 pub mod Written
 pub mod InPlace
-pub mod PoolChanges
+pub mod Fits
+pub mod TimerFits
 pub mod ContainerChanges
 pub mod Frames
 pub mod ActSound

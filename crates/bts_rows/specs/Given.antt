@@ -1,5 +1,5 @@
 -- What whoever hands in a command owes: that a line of a session gives it.
-use Rattle.std.specs.Prelude.{◌≡◌, ◌≤◌, Bool, false, ◌||◌, List, [], ◌∷◌, ◌++◌, length, Option, option_to_list}
+use Rattle.std.specs.Prelude.{◌≡◌, ◌≤◌, Bool, false, ◌||◌, List, [], ◌∷◌, ◌++◌, length, Option, Some, None, option_to_list}
 use Rattle.std.specs.List.{list_any}
 use Rattle.bts_names.specs.Names.{Name, same, initial_name, root_name}
 use Rattle.bts_command.specs.declared.command.Command.{Command}
@@ -17,6 +17,10 @@ abbrev pub names_of_target : Target → List Name
 names_of_target (of.Activity a) = a ∷ []
 names_of_target of.AcqProcess = []
 names_of_target of.AcqActivity = []
+
+abbrev pub names_of_option : Option Target → List Name
+names_of_option None = []
+names_of_option (Some target) = names_of_target target
 
 abbrev pub names_of_spot : Spot → List Name
 names_of_spot spot.Own = []
@@ -45,7 +49,7 @@ names_in (command.DeleteEvent e) = e ∷ []
 names_in (command.TestEvent e) = e ∷ []
 names_in (command.RetrieveSubevent e) = e ∷ []
 names_in (command.DefineTimer t e due) = t ∷ option_to_list e
-names_in (command.ForceTimer t target) = t ∷ []
+names_in (command.ForceTimer t target) = t ∷ names_of_option target
 names_in (command.CheckTimer t) = t ∷ []
 names_in (command.DeleteTimer t) = t ∷ []
 names_in _ = []
