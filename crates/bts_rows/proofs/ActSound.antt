@@ -1,15 +1,14 @@
 -- The commands of one activity keep a process sound.
-use Rattle.std.proofs.Common.{◌≡◌, ◌≤◌, ℕ, if◌then◌else◌, Bool, true, false, cond, not, ◌||◌, List, [], ◌∷◌, length, Option, Some, None, Result, Ok, Err, is_some, unwrap_or, option_to_list, refl, sym, ap, subst, ◌∙◌}
+use Rattle.std.proofs.Common.{◌≡◌, ◌≤◌, ℕ, if◌then◌else◌, Bool, true, false, cond, not, List, [], ◌∷◌, length, Option, Some, None, Result, Ok, Err, is_some, unwrap_or, option_to_list, refl, sym, ap, subst}
 use Rattle.std.specs.List.{list_any}
 use Rattle.std.proofs.lemmas.Bool.{or_parts}
 use Rattle.bts_names.specs.Names.{Name, ActivityPath, Bytes, same, initial_name, root_name}
 use Rattle.bts_names.specs.Named.{lookup, is_there}
-use Rattle.bts_names.specs.Answer.{Answer, refused, done, at_some, at_ok, left_by, refuse◌because◌when◌otherwise◌, refuse◌for◌otherwise◌}
+use Rattle.bts_names.specs.Answer.{Answer, at_some, at_ok, left_by, refuse◌because◌when◌otherwise◌, refuse◌for◌otherwise◌}
 use Rattle.bts_names.specs.declared.reply.Resp.{Resp}
 use Rattle.bts_names.specs.declared.reply.Resp.TheVariants as resp
 use Rattle.bts_names.specs.declared.reply.Reason.{Reason}
 use Rattle.bts_names.specs.declared.reply.Reason.TheVariants as reason
-use Rattle.bts_names.specs.declared.reply.Value.TheVariants as value
 use Rattle.bts_names.specs.declared.state.TimerStatus.{TimerStatus}
 use Rattle.bts_command.specs.declared.command.Command.{Command}
 use Rattle.bts_command.specs.declared.command.Command.TheVariants as command
@@ -21,7 +20,7 @@ use Rattle.bts_command.specs.declared.command.Due.{Due}
 use Rattle.bts_container.specs.Containers.{Containers, IsPool, is_long, has_no_room, put_container, delete_container}
 use Rattle.bts_event.specs.Calls as calls
 use Rattle.bts_event.specs.Events.{Events, new_atomic, new_composite}
-use Rattle.bts_event.specs.declared.event.Trigger.TheVariants.{Input, Timer}
+use Rattle.bts_event.specs.declared.event.Trigger.TheVariants.{Input}
 use Rattle.bts_event.specs.Pool.{Pool, defined, deleted, first_entry, next_subevent, retrieved, subevent_added, subevent_removed, subevent_retrieved, test_of}
 use Rattle.bts_event.specs.Refusals as refusals
 use Rattle.bts_event.specs.Sound.{IsSoundPool}
@@ -33,11 +32,10 @@ use Rattle.bts_tree.specs.declared.activity.Activity.{Activity}
 use Rattle.bts_tree.specs.Activities.{Activities}
 use Rattle.bts_tree.specs.Processes.{Process, activity_at, edited, has_tree}
 use Rattle.bts_tree.specs.Soundness.{IsSoundInFrames, IsSoundUnder, IsSoundActivity}
-use Rattle.bts_rows.specs.declared.held.Held.{Held}
 use Rattle.bts_rows.specs.Targets.{AtActivity, Here, Named, Store, at_named, at_own, at_path, at_place, at_target, containers_of, in_activity, in_request, is_read_only, named_by, none, of_activity, of_process, path, stored, with_stored}
 use Rattle.bts_rows.specs.ActRows as row
 use Rattle.bts_rows.specs.Rows.{act_at}
-use Rattle.bts_rows.specs.Given.{IsGiven, is_systems, names_in, subs_in}
+use Rattle.bts_rows.specs.Given.{IsGiven, is_systems}
 use Rattle.bts_rows.proofs.Edits.{HasOrder}
 use Rattle.bts_rows.proofs.Frames.{act_on_whole}
 use Rattle.bts_rows.proofs.ContainerChanges.{pool_delete, pool_put}

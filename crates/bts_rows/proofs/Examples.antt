@@ -1,8 +1,7 @@
 -- Commands one after the other, and what they answer, computed from the definitions alone.
-use Rattle.std.proofs.Common.{◌≡◌, ℕ, Bool, true, false, List, [], ◌∷◌, Option, Some, None, map, length, codes, refl}
-use Rattle.bts_names.specs.Names.{Name, ActivityPath, initial_name}
-use Rattle.bts_names.specs.Answer.{Answer, left_by, reply_of}
-use Rattle.bts_names.specs.declared.key.Key.{Key}
+use Rattle.std.proofs.Common.{◌≡◌, ℕ, true, false, List, [], ◌∷◌, Some, None, codes, refl}
+use Rattle.bts_names.specs.Names.{Name, initial_name}
+use Rattle.bts_names.specs.Answer.{left_by, reply_of}
 use Rattle.bts_names.specs.declared.reply.Reply.{Reply}
 use Rattle.bts_names.specs.declared.reply.Resp.{Resp}
 use Rattle.bts_names.specs.declared.reply.Resp.TheVariants as resp
@@ -20,8 +19,7 @@ use Rattle.bts_command.specs.declared.command.Spot.TheVariants as spot
 use Rattle.bts_command.specs.declared.command.Target.TheVariants as of
 use Rattle.bts_event.specs.Pool.{fired, settled}
 use Rattle.bts_timer.specs.Timers.{with_status}
-use Rattle.bts_tree.specs.declared.activity.Activity.{Activity}
-use Rattle.bts_tree.specs.Processes.{Process, activity_at, edited, no_process}
+use Rattle.bts_tree.specs.Processes.{Process, edited, no_process}
 use Rattle.bts_rows.specs.declared.held.Held.{Held}
 use Rattle.bts_rows.specs.declared.held.Held.TheVariants as held
 use Rattle.bts_rows.specs.ActRows.{act_row}
@@ -89,12 +87,12 @@ dormant s = edited [] (λ a. record a { mode = mode.Dormant }) s
 
 -- two entries of one composite, and each sub-event retrieved once
 two_entries : replies root held.Never 0 (started_by []) (
-        command.RetrieveReattach ∷ command.DefineTimer (codes "T1") None (After 60) ∷ command.DefineTimer (codes "T2") None (After 60) ∷ command.DefineComposite (codes "EITHER") false (codes "T1" ∷ codes "T2" ∷ [])
-        ∷ command.ForceTimer (codes "T1") None ∷ command.RetrieveSubevent (codes "EITHER") ∷ command.ForceTimer (codes "T2") None ∷ command.RetrieveReattach ∷ command.RetrieveSubevent (codes "EITHER")
-        ∷ command.RetrieveReattach ∷ command.RetrieveSubevent (codes "EITHER") ∷ [])
+    command.RetrieveReattach ∷ command.DefineTimer (codes "T1") None (After 60) ∷ command.DefineTimer (codes "T2") None (After 60) ∷ command.DefineComposite (codes "EITHER") false (codes "T1" ∷ codes "T2" ∷ [])
+    ∷ command.ForceTimer (codes "T1") None ∷ command.RetrieveSubevent (codes "EITHER") ∷ command.ForceTimer (codes "T2") None ∷ command.RetrieveReattach ∷ command.RetrieveSubevent (codes "EITHER")
+    ∷ command.RetrieveReattach ∷ command.RetrieveSubevent (codes "EITHER") ∷ [])
     ≡ normal (value.Event initial_name kind.System) ∷ normal value.Nothing ∷ normal value.Nothing ∷ normal value.Nothing
-        ∷ normal value.Nothing ∷ normal (value.Event (codes "T1") kind.Timer) ∷ normal value.Nothing ∷ normal (value.Event (codes "EITHER") kind.Composite) ∷ normal (value.Event (codes "T2") kind.Timer)
-        ∷ normal (value.Event (codes "EITHER") kind.Composite) ∷ refusal resp.End reason.Empty ∷ []
+    ∷ normal value.Nothing ∷ normal (value.Event (codes "T1") kind.Timer) ∷ normal value.Nothing ∷ normal (value.Event (codes "EITHER") kind.Composite) ∷ normal (value.Event (codes "T2") kind.Timer)
+    ∷ normal (value.Event (codes "EITHER") kind.Composite) ∷ refusal resp.End reason.Empty ∷ []
 unfolding replies started_by run_root behind answer row act_row family_row request_row settled
 two_entries = refl
 
@@ -135,7 +133,7 @@ check_both = command.RetrieveReattach ∷ command.CheckTimer (codes "T1") ∷ co
 
 checked : replies root held.Never 60 (first_expired (started_by timers)) check_both
     ≡ normal (value.Event (codes "T1") kind.Timer) ∷ normal (value.Timer status.Expired) ∷ normal (value.Timer status.Unexpired) ∷ refusal resp.Timererr reason.Missing ∷ normal value.Nothing
-        ∷ refusal resp.Eventerr reason.Missing ∷ []
+    ∷ refusal resp.Eventerr reason.Missing ∷ []
 unfolding replies started_by run_root timers check_both behind answer row act_row family_row request_row settled
 checked = refl
 
@@ -149,11 +147,11 @@ past_the_last = refl
 all_of : List Command
 all_of =
     command.RetrieveReattach ∷ command.DefineTimer (codes "T1") None (After 1) ∷ command.DefineTimer (codes "T2") None (After 2) ∷ command.DefineComposite (codes "BOTH") true (codes "T1" ∷ codes "T2" ∷ [])
-        ∷ command.ForceTimer (codes "T1") None ∷ command.RetrieveReattach ∷ command.DeleteTimer (codes "T2") ∷ command.TestEvent (codes "BOTH") ∷ command.RetrieveReattach ∷ []
+    ∷ command.ForceTimer (codes "T1") None ∷ command.RetrieveReattach ∷ command.DeleteTimer (codes "T2") ∷ command.TestEvent (codes "BOTH") ∷ command.RetrieveReattach ∷ []
 
 turned_by_leaving : replies root held.Never 0 (started_by []) all_of
     ≡ normal (value.Event initial_name kind.System) ∷ normal value.Nothing ∷ normal value.Nothing ∷ normal value.Nothing ∷ normal value.Nothing ∷ refusal resp.End reason.Empty ∷ normal value.Nothing
-        ∷ normal (value.Fired true) ∷ normal (value.Event (codes "BOTH") kind.Composite) ∷ []
+    ∷ normal (value.Fired true) ∷ normal (value.Event (codes "BOTH") kind.Composite) ∷ []
 unfolding replies started_by run_root all_of behind answer row act_row family_row request_row settled
 turned_by_leaving = refl
 
@@ -169,8 +167,8 @@ abbrev child : Here
 child = in_activity (1 ∷ [])
 
 in_the_child : replies child held.Never 0 with_child (
-        command.GetContainer (codes "C") spot.Process ∷ command.PutContainer (codes "C") spot.Process (codes "x") ∷ command.GetContainer (codes "C") spot.Own ∷ command.PutContainer (codes "C") spot.Own (codes "c")
-        ∷ command.GetContainer (codes "C") spot.Own ∷ command.GetContainer (codes "C") (spot.Of (of.Activity (codes "B"))) ∷ [])
+    command.GetContainer (codes "C") spot.Process ∷ command.PutContainer (codes "C") spot.Process (codes "x") ∷ command.GetContainer (codes "C") spot.Own ∷ command.PutContainer (codes "C") spot.Own (codes "c")
+    ∷ command.GetContainer (codes "C") spot.Own ∷ command.GetContainer (codes "C") (spot.Of (of.Activity (codes "B"))) ∷ [])
     ≡ normal (value.Bytes (codes "p")) ∷ refusal resp.Invreq reason.ReadOnly ∷ refusal resp.Containererr reason.Missing ∷ normal value.Nothing ∷ normal (value.Bytes (codes "c")) ∷ refusal resp.Activityerr reason.Missing ∷ []
 unfolding replies with_child started_by run_root behind answer row act_row family_row request_row settled
 in_the_child = refl

@@ -1,38 +1,27 @@
 -- An activity whose events, timers or containers a command changed fits in its place.
-use Rattle.std.proofs.Common.{◌≡◌, ℕ, Bool, true, false, cond, not, ◌&&◌, List, [], ◌∷◌, Option, Some, None, length, is_some, refl, sym, ap, subst, ◌∙◌, true≢false}
+use Rattle.std.proofs.Common.{◌≡◌, true, false, cond, Option, None, refl, ap, subst}
 use Rattle.std.specs.Map.{keys_of}
-use Rattle.std.specs.Map as map
-use Rattle.std.specs.List.{IsDistinct}
-use Rattle.std.proofs.lemmas.Map.{lookup-set_value, keys-set_value}
-use Rattle.bts_names.specs.Names.{Name, same, same_exact, initial_name}
-use Rattle.bts_names.specs.Named.{lookup, is_there, without}
-use Rattle.bts_names.specs.declared.state.TimerStatus.TheVariants as status
+use Rattle.bts_names.specs.Names.{Name, same, initial_name}
+use Rattle.bts_names.specs.Named.{lookup}
 use Rattle.bts_names.specs.declared.reply.Reason.{Reason}
 use Rattle.bts_container.specs.Containers.{Containers, IsPool}
-use Rattle.bts_event.specs.declared.event.Event.{Event}
-use Rattle.bts_event.specs.declared.event.Event.TheVariants.{Atomic as atomic, Composite as composite}
 use Rattle.bts_event.specs.declared.event.Trigger.{Trigger}
 use Rattle.bts_event.specs.declared.event.Trigger.TheVariants.{Input, Completion, Timer}
 use Rattle.bts_event.specs.Calls as calls
-use Rattle.bts_event.specs.Events.{Events, change, event_of, holder, is_atomic, is_composite, is_event_of, is_fired_atomic, new_atomic, set_bit, with_queued}
-use Rattle.bts_event.specs.Pool.{Pool, defined, deleted, fired, parted, removed, removed_at}
-use Rattle.bts_event.specs.Refusals.{define_refusal, fire_refusal, fire_refusal_of, is_full}
+use Rattle.bts_event.specs.Events.{new_atomic}
+use Rattle.bts_event.specs.Pool.{Pool, defined, fired}
+use Rattle.bts_event.specs.Refusals.{define_refusal, fire_refusal}
 use Rattle.bts_event.specs.Sound.{IsSoundPool}
 use Rattle.bts_event.proofs.Accounts.{after_sound}
-use Rattle.bts_event.proofs.Orders.{IsRising, lookup-in_order, lookup-without}
-use Rattle.bts_event.proofs.Same.{same_laws, same_refl, same_sym}
+use Rattle.bts_event.proofs.Orders.{IsRising}
 use Rattle.bts_timer.specs.declared.timer.Timer.{Timer as OneTimer}
-use Rattle.bts_timer.specs.Due.{is_unexpired}
-use Rattle.bts_timer.specs.Timers.{Timers, set_where_there, started, with_status}
+use Rattle.bts_timer.specs.Timers.{Timers}
 use Rattle.bts_tree.specs.declared.activity.Activity.{Activity}
-use Rattle.bts_tree.specs.Soundness.{HasTimerEvents, IsSoundActivity}
-use Rattle.bts_rows.specs.ActRows.{fired_if, removed_if, with_forced, with_timer, without_timer}
-use Rattle.bts_rows.proofs.Keeps.{Keeps, is_owned, is_picked, keeps_less, keeps_same, settled-events}
+use Rattle.bts_tree.specs.Soundness.{IsSoundActivity}
+use Rattle.bts_rows.proofs.Keeps.{Keeps, is_owned, keeps_less, keeps_same}
 use Rattle.bts_rows.proofs.InPlace.{FitsIn, is_childs}
-use Rattle.bts_rows.proofs.Ordered as ordered
-use Rattle.bts_rows.proofs.PoolKeeps.{define_free, keeps_defined, keeps_deleted, keeps_firing, parted_keeps, parted_rising, picked-firing}
-use Rattle.bts_rows.proofs.TimerCalls.{OwnFit, first_at, first_none, fit_but, fit_keeps, old_trigger, others, picked_from, trigger_from}
-use Rattle.bts_rows.proofs.TimerEvents.{HasEvent, TimersFit, fires_from, found_from, has_timer_events, timers_fit, trigger_at}
+use Rattle.bts_rows.proofs.TimerCalls.{OwnFit, fit_but, fit_keeps, others}
+use Rattle.bts_rows.proofs.TimerEvents.{TimersFit, has_timer_events, timers_fit}
 
 owned_childs : (t : Trigger) → is_childs t ≡ true → is_owned t ≡ true
 owned_childs Input h = cc

@@ -1,5 +1,5 @@
 -- A command in an activity's frame is read on the part at its path and joined: that is its row on the whole.
-use Rattle.std.proofs.Common.{◌≡◌, ℕ, Bool, true, false, cond, not, ◌&&◌, nat_eq, length, ◌+◌, List, [], ◌∷◌, Option, Some, None, find, unwrap_or, Result, Ok, Err, refl, sym, ap, subst, ◌∙◌}
+use Rattle.std.proofs.Common.{◌≡◌, ℕ, Bool, true, false, cond, not, ◌&&◌, nat_eq, length, ◌+◌, List, [], ◌∷◌, Option, Some, None, find, unwrap_or, Result, Ok, Err, refl, sym, ap, ◌∙◌}
 use Rattle.std.proofs.lemmas.Bool.{and_parts}
 use Rattle.bts_names.specs.Names.{Name, ActivityPath, Bytes, same}
 use Rattle.bts_names.specs.Named.{lookup, is_there}
@@ -18,8 +18,8 @@ use Rattle.bts_command.specs.declared.command.Target.TheVariants as of
 use Rattle.bts_command.specs.declared.command.Spot.{Spot}
 use Rattle.bts_command.specs.declared.command.Spot.TheVariants as spot
 use Rattle.bts_command.specs.declared.command.Due.{Due}
-use Rattle.bts_container.specs.Containers.{Containers, is_long, has_no_room, put_container, delete_container}
-use Rattle.bts_event.specs.Events.{Events, new_atomic, new_composite}
+use Rattle.bts_container.specs.Containers.{is_long, has_no_room, put_container, delete_container}
+use Rattle.bts_event.specs.Events.{Events}
 use Rattle.bts_event.specs.Pool.{Pool, first_entry, next_subevent, retrieved, subevent_retrieved, test_of}
 use Rattle.bts_event.specs.Refusals as refusals
 use Rattle.bts_timer.specs.Due.{is_unexpired_status}
@@ -28,7 +28,7 @@ use Rattle.bts_tree.specs.declared.activity.Activity.{Activity}
 use Rattle.bts_tree.specs.Activities.{Activities}
 use Rattle.bts_tree.specs.Paths.{leads_to, is_child_of}
 use Rattle.bts_tree.specs.Processes.{Process, activities, activity_at, child_of, edited, part, join, with_pool}
-use Rattle.bts_rows.specs.Targets.{AtActivity, Here, Named, Store, at_named, at_own, at_path, at_place, at_target, containers_of, in_activity, in_request, is_read_only, named_by, named_child, none, of_activity, of_process, path, stored, with_stored}
+use Rattle.bts_rows.specs.Targets.{AtActivity, Here, Store, at_named, at_own, at_path, at_place, at_target, containers_of, in_activity, is_read_only, named_child, of_activity, of_process, stored, with_stored}
 use Rattle.bts_rows.specs.ActRows as row
 use Rattle.bts_rows.specs.Rows.{act_at}
 use Rattle.bts_rows.proofs.Order.{IsInOrder, leads_own}
@@ -135,21 +135,21 @@ module _ (n : ℕ) (p : ActivityPath) (s : Process) (order : HasOrder s.tree) wh
   put_joined c place bytes =
       place_joined (n ∷ p) s order place
       (λ spot store.
-          refuse resp.Invreq because reason.ReadOnly when is_read_only here spot otherwise
-          refuse resp.Lengerr because reason.Long when is_long bytes otherwise
-          refuse resp.Containererr because reason.Limit when has_no_room c (stored store own) otherwise
-          done value.Nothing (with_stored store (put_container c bytes) own))
+      refuse resp.Invreq because reason.ReadOnly when is_read_only here spot otherwise
+      refuse resp.Lengerr because reason.Long when is_long bytes otherwise
+      refuse resp.Containererr because reason.Limit when has_no_room c (stored store own) otherwise
+      done value.Nothing (with_stored store (put_container c bytes) own))
       (λ spot store.
-          refuse resp.Invreq because reason.ReadOnly when is_read_only here spot otherwise
-          refuse resp.Lengerr because reason.Long when is_long bytes otherwise
-          refuse resp.Containererr because reason.Limit when has_no_room c (stored store s) otherwise
-          done value.Nothing (with_stored store (put_container c bytes) s))
+      refuse resp.Invreq because reason.ReadOnly when is_read_only here spot otherwise
+      refuse resp.Lengerr because reason.Long when is_long bytes otherwise
+      refuse resp.Containererr because reason.Limit when has_no_room c (stored store s) otherwise
+      done value.Nothing (with_stored store (put_container c bytes) s))
       refl
       (λ q spot l.
-          mapped_when whole resp.Invreq reason.ReadOnly (is_read_only here spot) (is_read_only here spot) _ _ refl
-          (mapped_when whole resp.Lengerr reason.Long (is_long bytes) (is_long bytes) _ _ refl
-          (mapped_when whole resp.Containererr reason.Limit (has_no_room c (stored (of_activity q) own)) (has_no_room c (stored (of_activity q) s)) _ _ (ap (has_no_room c) (stored_part (n ∷ p) s order q l))
-          (edited_joined (n ∷ p) s order value.Nothing q (λ a. record a { containers = put_container c bytes a.containers }) l))))
+      mapped_when whole resp.Invreq reason.ReadOnly (is_read_only here spot) (is_read_only here spot) _ _ refl
+      (mapped_when whole resp.Lengerr reason.Long (is_long bytes) (is_long bytes) _ _ refl
+      (mapped_when whole resp.Containererr reason.Limit (has_no_room c (stored (of_activity q) own)) (has_no_room c (stored (of_activity q) s)) _ _ (ap (has_no_room c) (stored_part (n ∷ p) s order q l))
+      (edited_joined (n ∷ p) s order value.Nothing q (λ a. record a { containers = put_container c bytes a.containers }) l))))
 
   get_joined : (c : Name) (place : Spot) → mapped whole (row.get_container_row here own c place) ≡ row.get_container_row here s c place
   get_joined c place =
@@ -158,32 +158,32 @@ module _ (n : ℕ) (p : ActivityPath) (s : Process) (order : HasOrder s.tree) wh
       (λ spot store. at_some resp.Containererr reason.Missing (lookup c (stored store s)) λ bytes. done (value.Bytes bytes) s)
       (mapped_some whole resp.Containererr reason.Missing (lookup c s.containers) (lookup c s.containers) _ _ refl (λ bytes e. unchanged_joined (n ∷ p) s order (value.Bytes bytes)))
       (λ q spot l. mapped_some whole resp.Containererr reason.Missing (lookup c (stored (of_activity q) own)) (lookup c (stored (of_activity q) s)) _ _ (ap (lookup c) (stored_part (n ∷ p) s order q l))
-          (λ bytes e. unchanged_joined (n ∷ p) s order (value.Bytes bytes)))
+      (λ bytes e. unchanged_joined (n ∷ p) s order (value.Bytes bytes)))
 
   drop_joined : (c : Name) (place : Spot) → mapped whole (row.delete_container_row here own c place) ≡ row.delete_container_row here s c place
   drop_joined c place =
       place_joined (n ∷ p) s order place
       (λ spot store.
-          refuse resp.Invreq because reason.ReadOnly when is_read_only here spot otherwise
-          refuse resp.Containererr because reason.Missing when not (is_there c (stored store own)) otherwise
-          done value.Nothing (with_stored store (delete_container c) own))
+      refuse resp.Invreq because reason.ReadOnly when is_read_only here spot otherwise
+      refuse resp.Containererr because reason.Missing when not (is_there c (stored store own)) otherwise
+      done value.Nothing (with_stored store (delete_container c) own))
       (λ spot store.
-          refuse resp.Invreq because reason.ReadOnly when is_read_only here spot otherwise
-          refuse resp.Containererr because reason.Missing when not (is_there c (stored store s)) otherwise
-          done value.Nothing (with_stored store (delete_container c) s))
+      refuse resp.Invreq because reason.ReadOnly when is_read_only here spot otherwise
+      refuse resp.Containererr because reason.Missing when not (is_there c (stored store s)) otherwise
+      done value.Nothing (with_stored store (delete_container c) s))
       refl
       (λ q spot l.
-          mapped_when whole resp.Invreq reason.ReadOnly (is_read_only here spot) (is_read_only here spot) _ _ refl
-          (mapped_when whole resp.Containererr reason.Missing (not (is_there c (stored (of_activity q) own))) (not (is_there c (stored (of_activity q) s))) _ _
-              (ap (λ cs. not (is_there c cs)) (stored_part (n ∷ p) s order q l))
-          (edited_joined (n ∷ p) s order value.Nothing q (λ a. record a { containers = delete_container c a.containers }) l)))
+      mapped_when whole resp.Invreq reason.ReadOnly (is_read_only here spot) (is_read_only here spot) _ _ refl
+      (mapped_when whole resp.Containererr reason.Missing (not (is_there c (stored (of_activity q) own))) (not (is_there c (stored (of_activity q) s))) _ _
+      (ap (λ cs. not (is_there c cs)) (stored_part (n ∷ p) s order q l))
+      (edited_joined (n ∷ p) s order value.Nothing q (λ a. record a { containers = delete_container c a.containers }) l)))
 
   events_joined : (why : Events → Option Reason) (change : Pool → Pool) → mapped whole (row.event_row here own why change) ≡ row.event_row here s why change
   events_joined why change =
       own_joined (n ∷ p) s order
       (λ z q a.
-          refuse resp.Eventerr for why a.pool.events otherwise
-          done value.Nothing (with_pool q change z))
+      refuse resp.Eventerr for why a.pool.events otherwise
+      done value.Nothing (with_pool q change z))
       (λ q a l.
       mapped_for whole resp.Eventerr (why a.pool.events) _ _
       (edited_joined (n ∷ p) s order value.Nothing q (λ b. record b { pool = change b.pool }) l))
@@ -192,8 +192,8 @@ module _ (n : ℕ) (p : ActivityPath) (s : Process) (order : HasOrder s.tree) wh
   test_joined e =
       own_joined (n ∷ p) s order
       (λ z q a.
-          at_ok resp.Eventerr (test_of a.pool.events (lookup e a.pool.events)) λ fired.
-          done (value.Fired fired) z)
+      at_ok resp.Eventerr (test_of a.pool.events (lookup e a.pool.events)) λ fired.
+      done (value.Fired fired) z)
       (λ q a l.
       mapped_ok whole resp.Eventerr (test_of a.pool.events (lookup e a.pool.events)) _ _ (λ fired.
       unchanged_joined (n ∷ p) s order (value.Fired fired)))
@@ -202,8 +202,8 @@ module _ (n : ℕ) (p : ActivityPath) (s : Process) (order : HasOrder s.tree) wh
   retrieve_joined =
       own_joined (n ∷ p) s order
       (λ z q a.
-          at_some resp.End reason.Empty (first_entry a.pool.entries a.pool.events) λ e.
-          done (value.Event e.0 e.1) (with_pool q retrieved z))
+      at_some resp.End reason.Empty (first_entry a.pool.entries a.pool.events) λ e.
+      done (value.Event e.0 e.1) (with_pool q retrieved z))
       (λ q a l.
       mapped_some whole resp.End reason.Empty (first_entry a.pool.entries a.pool.events) (first_entry a.pool.entries a.pool.events) _ _ refl (λ e g.
       edited_joined (n ∷ p) s order (value.Event e.0 e.1) q (λ b. record b { pool = retrieved b.pool }) l))
@@ -212,9 +212,9 @@ module _ (n : ℕ) (p : ActivityPath) (s : Process) (order : HasOrder s.tree) wh
   retrieve_sub_joined e =
       own_joined (n ∷ p) s order
       (λ z q a.
-          refuse resp.Eventerr for refusals.not_composite (lookup e a.pool.events) otherwise
-          at_ok resp.End (next_subevent e a.pool) λ sub.
-          done (value.Event sub.0 sub.1) (with_pool q (subevent_retrieved e) z))
+      refuse resp.Eventerr for refusals.not_composite (lookup e a.pool.events) otherwise
+      at_ok resp.End (next_subevent e a.pool) λ sub.
+      done (value.Event sub.0 sub.1) (with_pool q (subevent_retrieved e) z))
       (λ q a l.
       mapped_for whole resp.Eventerr (refusals.not_composite (lookup e a.pool.events)) _ _
       (mapped_ok whole resp.End (next_subevent e a.pool) _ _ (λ sub.
@@ -224,11 +224,11 @@ module _ (n : ℕ) (p : ActivityPath) (s : Process) (order : HasOrder s.tree) wh
   timer_joined now t e due =
       own_joined (n ∷ p) s order
       (λ z q a.
-          refuse resp.Timererr because reason.Taken when is_there t a.timers otherwise
-          refuse resp.Eventerr because reason.Taken when is_there (unwrap_or e t) a.pool.events otherwise
-          refuse resp.Invreq because reason.Range when row.is_past_last now due otherwise
-          refuse resp.Eventerr because reason.Limit when refusals.is_full a.pool.events otherwise
-          done value.Nothing (edited q (row.with_timer t (unwrap_or e t) (row.due_at now due)) z))
+      refuse resp.Timererr because reason.Taken when is_there t a.timers otherwise
+      refuse resp.Eventerr because reason.Taken when is_there (unwrap_or e t) a.pool.events otherwise
+      refuse resp.Invreq because reason.Range when row.is_past_last now due otherwise
+      refuse resp.Eventerr because reason.Limit when refusals.is_full a.pool.events otherwise
+      done value.Nothing (edited q (row.with_timer t (unwrap_or e t) (row.due_at now due)) z))
       (λ q a l.
       mapped_when whole resp.Timererr reason.Taken (is_there t a.timers) (is_there t a.timers) _ _ refl
       (mapped_when whole resp.Eventerr reason.Taken (is_there (unwrap_or e t) a.pool.events) (is_there (unwrap_or e t) a.pool.events) _ _ refl
@@ -252,8 +252,8 @@ module _ (n : ℕ) (p : ActivityPath) (s : Process) (order : HasOrder s.tree) wh
   check_joined t =
       own_joined (n ∷ p) s order
       (λ z q a.
-          at_ok resp.Timererr (status_or_missing (lookup t a.timers)) λ status.
-          done (value.Timer status) (cond (is_unexpired_status status) z (edited q (row.without_timer t) z)))
+      at_ok resp.Timererr (status_or_missing (lookup t a.timers)) λ status.
+      done (value.Timer status) (cond (is_unexpired_status status) z (edited q (row.without_timer t) z)))
       (λ q a l.
       mapped_ok whole resp.Timererr (status_or_missing (lookup t a.timers)) _ _ (λ status.
       checked_joined t status q (is_unexpired_status status) l))
@@ -262,8 +262,8 @@ module _ (n : ℕ) (p : ActivityPath) (s : Process) (order : HasOrder s.tree) wh
   delete_timer_joined t =
       own_joined (n ∷ p) s order
       (λ z q a.
-          refuse resp.Timererr because reason.Missing when not (is_there t a.timers) otherwise
-          done value.Nothing (edited q (row.without_timer t) z))
+      refuse resp.Timererr because reason.Missing when not (is_there t a.timers) otherwise
+      done value.Nothing (edited q (row.without_timer t) z))
       (λ q a l.
       mapped_when whole resp.Timererr reason.Missing (not (is_there t a.timers)) (not (is_there t a.timers)) _ _ refl
       (edited_joined (n ∷ p) s order value.Nothing q (row.without_timer t) l))

@@ -1,11 +1,11 @@
 -- A process stays sound where an activity is changed so that it still fits in its place.
-use Rattle.std.proofs.Common.{◌≡◌, ℕ, ◌≤◌, Bool, true, false, cond, not, ◌&&◌, ◌||◌, List, [], ◌∷◌, Option, Some, None, length, is_some, is_none, IsTrue, map, nat_le, nat_eq, option_map, unwrap_or, refl, sym, ap, subst, ◌∙◌, true≢false}
-use Rattle.std.specs.List.{filter, list_all, list_any, AllByRecursion, IsDistinct}
+use Rattle.std.proofs.Common.{◌≡◌, ℕ, ◌≤◌, Bool, true, false, not, ◌&&◌, ◌||◌, List, [], ◌∷◌, Option, Some, None, is_none, IsTrue, map, nat_le, nat_eq, option_map, unwrap_or, refl, sym, ap, subst, ◌∙◌}
+use Rattle.std.specs.List.{filter, list_all, list_any, IsDistinct}
 use Rattle.std.specs.List.Sorted.{IsStrictlySortedBy}
 use Rattle.std.specs.Map.{keys_of}
 use Rattle.std.proofs.lemmas.Bool.{and_parts, eqb-true, eq-eqb}
 use Rattle.bts_names.specs.Names.{Name, ActivityPath, same, root_name}
-use Rattle.bts_names.specs.Named.{lookup, is_there}
+use Rattle.bts_names.specs.Named.{lookup}
 use Rattle.bts_event.specs.declared.event.Event.{Event}
 use Rattle.bts_event.specs.declared.event.Event.TheVariants.{Atomic as atomic, Composite as composite}
 use Rattle.bts_event.specs.declared.event.Trigger.{Trigger}
@@ -13,12 +13,12 @@ use Rattle.bts_event.specs.declared.event.Trigger.TheVariants.{Input, Completion
 use Rattle.bts_event.specs.Events.{Events, is_completion, is_completion_of, is_fired_atomic}
 use Rattle.bts_event.proofs.Orders.{IsRising}
 use Rattle.bts_tree.specs.declared.activity.Activity.{Activity}
-use Rattle.bts_tree.specs.Activities.{Activities, changed_at, changed_by, is_complete, written_at}
+use Rattle.bts_tree.specs.Activities.{Activities, changed_at, changed_by, written_at}
 use Rattle.bts_tree.specs.Modes.{is_mode_active}
 use Rattle.bts_tree.specs.Paths.{parent_of, number_of, is_child_of}
-use Rattle.bts_tree.specs.Processes.{Process, activities, activity_at, edited}
-use Rattle.bts_tree.specs.Soundness.{FitsChildren, FitsParent, IsSoundActivity, IsSoundInFrames, IsSoundTree, IsSoundUnder, active_in, children_of, is_event_of_child, is_fired, is_root, needs_event, parent_passes}
-use Rattle.bts_rows.proofs.Entries.{Passes, all_at, all_from, any_at, any_from, both_so}
+use Rattle.bts_tree.specs.Processes.{Process, activity_at, edited}
+use Rattle.bts_tree.specs.Soundness.{FitsChildren, FitsParent, IsSoundActivity, IsSoundInFrames, IsSoundTree, IsSoundUnder, children_of, is_event_of_child, is_fired, is_root, needs_event}
+use Rattle.bts_rows.proofs.Entries.{all_at, all_from, any_at, any_from, both_so}
 use Rattle.bts_rows.proofs.Keeps.{Keeps}
 use Rattle.bts_rows.proofs.Order.{path_cmp}
 use Rattle.bts_rows.proofs.TimerCalls.{kept_trigger, kept_unfired, old_trigger}
@@ -131,8 +131,8 @@ module _ (t : Activities) (q : ActivityPath) (a b : Activity) (found : lookup q 
     told = subst (λ z. (not (is_root p) || z) ≡ true) (sym told) f.told;
     event = event_or (is_root p) (needs_event x) (needs_event y) _ _ (needs_same mode told)
         (passes_written q b a (waits_in p x.completion) (waits_in p y.completion) t p found
-            (λ z h. subst (λ c. waits_in p c z ≡ true) (sym completion) h)
-            (λ h. subst (λ c. waits_in p c b ≡ true) (sym completion) (waits_still a b rise_a (fits.sound).pool.events.ordered fits.events p x.completion h)))
+        (λ z h. subst (λ c. waits_in p c z ≡ true) (sym completion) h)
+        (λ h. subst (λ c. waits_in p c b ≡ true) (sym completion) (waits_still a b rise_a (fits.sound).pool.events.ordered fits.events p x.completion h)))
         f.event;
     depth = f.depth;
   }
@@ -180,10 +180,10 @@ module _ (t : Activities) (q : ActivityPath) (a b : Activity) (found : lookup q 
   own_event f n v k c =
       let o = of_child v c in
       let old : trigger_at (lookup n a.pool.events) ≡ Some (Completion o.child) =
-          old_trigger is_childs a.pool.events b.pool.events fits.events n (Completion o.child) refl (ap trigger_at k ∙ o.completes) in
+      old_trigger is_childs a.pool.events b.pool.events fits.events n (Completion o.child) refl (ap trigger_at k ∙ o.completes) in
       let y = childs_event a.pool.events n o.child old in
       let there : list_any (is_event_of_child (n, y.value)) (children_of q t) ≡ true =
-          or_true (is_completion y.value) _ (is_completion-from y.value o.child (ap trigger_at (sym y.found) ∙ old)) (all_at (has_child q t) a.pool.events n y.value f.events y.found) in
+      or_true (is_completion y.value) _ (is_completion-from y.value o.child (ap trigger_at (sym y.found) ∙ old)) (all_at (has_child q t) a.pool.events n y.value f.events y.found) in
       any_same (children_of q after) n v y.value (λ j. of_no_other v o.child o.completes j ∙ sym (y.is_its j)) ∙ children_any q (n, y.value) ∙ there
 
   children_own : FitsChildren t (q, a) → FitsChildren after (q, b)
@@ -237,6 +237,6 @@ edited_keeps_soundness frames s q f a sound h fits =
       containers = sound.containers;
       active = subst (λ ps. IsTrue (list_all (λ p. list_any (same p) frames) ps && list_all (λ p. list_any (same p) ps) frames))
           (sym (ap (λ o. keys_of (filter (λ x. is_mode_active x.1.mode) (unwrap_or o []))) changed ∙ active_still at.tree q a (f a) at.found fits rise
-              ∙ sym (ap (λ o. keys_of (filter (λ x. is_mode_active x.1.mode) (unwrap_or o []))) at.is_tree)))
+          ∙ sym (ap (λ o. keys_of (filter (λ x. is_mode_active x.1.mode) (unwrap_or o []))) at.is_tree)))
           sound.active;
     }

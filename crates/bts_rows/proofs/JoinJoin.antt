@@ -19,7 +19,7 @@ before_head : (a b c : ℕ) (r s t : Bool) → (r ≡ true → s ≡ true → t 
 before_head a b c r s t h k l = grind (arith, common_steps)
 
 -- what stands before a path stands before all below it
-before_below : (x p q : ActivityPath) → is_before x p ≡ true → leads_to p q ≡ true → is_before x q ≡ true
+pub before_below : (x p q : ActivityPath) → is_before x p ≡ true → leads_to p q ≡ true → is_before x q ≡ true
 before_below [] [] q h k = cc
 before_below (a ∷ x) [] q h k = cc
 before_below x (b ∷ p) [] h k = cc
@@ -32,7 +32,7 @@ behind_head : (a b c : ℕ) (r s t u : Bool) → (r ≡ false → s ≡ false �
 behind_head a b c r s t u h k l m = grind (arith, common_steps)
 
 -- what stands behind a path isn't before anything below it
-behind_below : (x p q : ActivityPath) → is_before x p ≡ false → leads_to p x ≡ false → leads_to p q ≡ true → is_before x q ≡ false
+pub behind_below : (x p q : ActivityPath) → is_before x p ≡ false → leads_to p x ≡ false → leads_to p q ≡ true → is_before x q ≡ false
 behind_below x [] q h k l = cc
 behind_below x (b ∷ p) [] h k l = cc
 behind_below [] (b ∷ p) (c ∷ q) h k l = cc
@@ -44,7 +44,7 @@ not_true true h = cc
 not_true false h = refl
 
 -- behind a path and all within it
-behind_parts : (x p : ActivityPath) → is_behind x p ≡ true → (is_before x p ≡ false) × (leads_to p x ≡ false)
+pub behind_parts : (x p : ActivityPath) → is_behind x p ≡ true → (is_before x p ≡ false) × (leads_to p x ≡ false)
 behind_parts x p h = let a = and_parts (not (is_before x p)) (not (leads_to p x)) (sym (behind_is x p) ∙ h) in (not_true _ a.0, not_true _ a.1)
 
 -- ---- filters of filters

@@ -1,5 +1,5 @@
 -- Which events a change leaves with what fires them, and unfired where they were so.
-use Rattle.std.proofs.Common.{◌≡◌, ℕ, Bool, true, false, cond, not, ◌&&◌, List, [], ◌∷◌, Option, Some, None, option_map, is_some, fold, refl, sym, ap, subst, ◌∙◌, true≢false}
+use Rattle.std.proofs.Common.{◌≡◌, Bool, true, false, cond, not, List, [], ◌∷◌, Option, Some, None, option_map, is_some, fold, refl, sym, ap, subst, ◌∙◌, true≢false}
 use Rattle.std.specs.List.{filter}
 use Rattle.std.specs.Map.{keys_of}
 use Rattle.bts_names.specs.Names.{Name, same, same_exact}

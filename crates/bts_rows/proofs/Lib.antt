@@ -2,6 +2,7 @@ pub mod Order
 pub mod Parts
 pub mod Edits
 pub mod JoinJoin
+pub mod OrderKept
 pub mod Keeps
 pub mod PoolKeeps
 pub mod Entries

@@ -30,7 +30,7 @@ is_behind x p = is_gt (path_cmp x p) && not (leads_to p x)
 abbrev pub IsInOrder : Activities → Type 0
 IsInOrder t = IsStrictlySortedBy path_cmp (keys_of t)
 
-less_from : (o : Ordering) → is_lt o ≡ true → o ≡ Less
+pub less_from : (o : Ordering) → is_lt o ≡ true → o ≡ Less
 less_from Less h = refl
 less_from Equal h = cc
 less_from Greater h = cc

@@ -11,8 +11,8 @@ use Rattle.bts_event.specs.declared.event.Event.TheVariants.{Atomic as atomic, C
 use Rattle.bts_event.specs.declared.event.Trigger.{Trigger}
 use Rattle.bts_event.specs.declared.queue.Entry.{Entry}
 use Rattle.bts_event.specs.Events.{Events, change, holder, is_fired_atomic, is_input, with_queued, with_rest, with_sub, without_sub}
-use Rattle.bts_event.specs.Pool.{Pool, defined, deleted, fired, first_taken, next_subevent, parted, placed, retrieved, settled, subevent_added, subevent_removed, subevent_retrieved, subevent_taken}
-use Rattle.bts_event.specs.Refusals.{composite_refusal, define_refusal, delete_refusal, delete_refusal_of, or_else}
+use Rattle.bts_event.specs.Pool.{Pool, defined, deleted, fired, first_taken, next_subevent, parted, placed, retrieved, subevent_added, subevent_removed, subevent_retrieved, subevent_taken}
+use Rattle.bts_event.specs.Refusals.{composite_refusal, define_refusal, delete_refusal, delete_refusal_of}
 use Rattle.bts_event.proofs.Bits.{not_when}
 use Rattle.bts_event.proofs.Defines.{none_from}
 use Rattle.bts_event.proofs.NewComposites.{or_none}

@@ -1,44 +1,31 @@
 -- Each row refuses with a response that isn't NORMAL, and for a reason.
-use Rattle.std.proofs.Common.{◌≡◌, ℕ, Bool, true, false, cond, not, ◌&&◌, nat_le, List, [], ◌∷◌, ◌++◌, length, Option, Some, None, Result, Ok, Err, is_some, is_none, unwrap_or, if◌then◌else◌, refl}
+use Rattle.std.proofs.Common.{◌≡◌, Bool, true, false, cond, List, [], ◌∷◌, ◌++◌, Option, Some, None, Result, Ok, Err, if◌then◌else◌, refl}
 use Rattle.std.specs.List.{list_any}
-use Rattle.bts_names.specs.Names.{Name, ActivityPath, Bytes}
+use Rattle.bts_names.specs.Names.{Name, ActivityPath}
 use Rattle.bts_names.specs.Named.{lookup, is_there}
-use Rattle.bts_names.specs.Answer.{Answer, refused, done, at_some, at_ok, left_by, mapped, reply_of, refuse◌because◌when◌otherwise◌, refuse◌for◌otherwise◌}
+use Rattle.bts_names.specs.Answer.{Answer, refused, done, at_some, at_ok, mapped, refuse◌because◌when◌otherwise◌, refuse◌for◌otherwise◌}
 use Rattle.bts_names.specs.declared.reply.Resp.{Resp}
 use Rattle.bts_names.specs.declared.reply.Resp.TheVariants as resp
 use Rattle.bts_names.specs.declared.reply.Reason.{Reason}
 use Rattle.bts_names.specs.declared.reply.Reason.TheVariants as reason
-use Rattle.bts_names.specs.declared.state.EventKind.{EventKind}
-use Rattle.bts_command.specs.declared.command.Command.{Command}
-use Rattle.bts_command.specs.declared.command.Command.TheVariants as command
 use Rattle.bts_command.specs.declared.command.Target.{Target}
 use Rattle.bts_command.specs.declared.command.Target.TheVariants as of
 use Rattle.bts_command.specs.declared.command.Spot.{Spot}
 use Rattle.bts_command.specs.declared.command.Spot.TheVariants as spot
-use Rattle.bts_command.specs.declared.command.Due.{Due}
-use Rattle.bts_command.specs.Numbers.{command_number}
-use Rattle.bts_container.specs.Containers.{is_long, has_no_room}
 use Rattle.bts_event.specs.declared.event.Event.{Event}
 use Rattle.bts_event.specs.declared.event.Event.TheVariants.{Atomic as atomic, Composite as composite}
-use Rattle.bts_event.specs.Composites.{Composite}
-use Rattle.bts_event.specs.Events.{Events, completion_of, has, holder, is_fired_atomic, is_input}
-use Rattle.bts_event.specs.Pool.{Pool, first_entry, first_queued, next_subevent, subevent_of, test_of}
+use Rattle.bts_event.specs.Events.{Events, has, holder, is_fired_atomic, is_input}
+use Rattle.bts_event.specs.Pool.{first_queued, subevent_of, test_of}
 use Rattle.bts_event.specs.Refusals as refusals
 use Rattle.bts_timer.specs.declared.timer.Timer.{Timer as OneTimer}
 use Rattle.bts_timer.specs.Due.{is_unexpired}
-use Rattle.bts_timer.specs.Timers.{force_refusal, missing_or_ended, status_or_missing}
+use Rattle.bts_timer.specs.Timers.{missing_or_ended, status_or_missing}
 use Rattle.bts_tree.specs.declared.activity.Activity.{Activity}
-use Rattle.bts_tree.specs.Activities.{child_limit, has_entries, is_at_rest, is_complete, is_dormant, is_initial, path_limit}
-use Rattle.bts_tree.specs.Paths.{number_of, parent_of}
-use Rattle.bts_tree.specs.Processes.{Process, activity_at, child_of, has_tree, part}
+use Rattle.bts_tree.specs.Processes.{Process, activity_at, child_of}
 use Rattle.bts_rows.specs.declared.held.Held.{Held}
 use Rattle.bts_rows.specs.declared.held.Held.TheVariants as held
-use Rattle.bts_rows.specs.Targets.{AtActivity, Here, Named, Store, acquired_activity, acquired_root, at_named, at_own, at_path, at_place, at_target, in_activity, in_request, is_read_only, named_by, named_child, none, of_activity, of_process, path, stored}
-use Rattle.bts_rows.specs.ActRows as act
-use Rattle.bts_rows.specs.FamilyRows as family
-use Rattle.bts_rows.specs.RequestRows as request
-use Rattle.bts_rows.specs.Replies.{IsProper, is_no_reason, is_normal}
-use Rattle.bts_rows.specs.Rows as rows
+use Rattle.bts_rows.specs.Targets.{AtActivity, Here, Named, Store, acquired_activity, acquired_root, at_named, at_own, at_path, at_place, at_target, in_activity, in_request, named_by, named_child, none, of_activity, of_process, path}
+use Rattle.bts_rows.specs.Replies.{is_no_reason, is_normal}
 
 -- a refusal for a reason, with a response that isn't NORMAL
 abbrev pub SaysWhy : {S : Type 0} → Answer S → Type 0

@@ -1,6 +1,6 @@
 -- The reply of each command says why it was refused, or that it was done.
 use Rattle.std.proofs.Common.{◌≡◌, ℕ, Bool, true, false, cond, not, ◌&&◌, nat_le, length, Option, Some, None, is_some, is_none, unwrap_or, [], refl, sym, ◌∙◌}
-use Rattle.bts_names.specs.Names.{Name, ActivityPath, Bytes}
+use Rattle.bts_names.specs.Names.{Name, ActivityPath}
 use Rattle.bts_names.specs.Named.{lookup, is_there}
 use Rattle.bts_names.specs.Answer.{Answer, refused, done, left_by, reply_of}
 use Rattle.bts_names.specs.declared.reply.Resp.TheVariants as resp
@@ -9,7 +9,6 @@ use Rattle.bts_names.specs.declared.reply.Reason.TheVariants as reason
 use Rattle.bts_command.specs.declared.command.Command.{Command}
 use Rattle.bts_command.specs.declared.command.Command.TheVariants as command
 use Rattle.bts_command.specs.declared.command.Target.{Target}
-use Rattle.bts_command.specs.declared.command.Due.{Due}
 use Rattle.bts_command.specs.Numbers.{command_number}
 use Rattle.bts_container.specs.Containers.{is_long, has_no_room}
 use Rattle.bts_event.specs.declared.event.Event.{Event}
@@ -27,7 +26,7 @@ use Rattle.bts_rows.specs.Targets.{Here, in_activity, in_request, is_read_only, 
 use Rattle.bts_rows.specs.ActRows as act
 use Rattle.bts_rows.specs.FamilyRows as family
 use Rattle.bts_rows.specs.RequestRows as request
-use Rattle.bts_rows.specs.Replies.{IsProper, is_no_reason, is_normal}
+use Rattle.bts_rows.specs.Replies.{IsProper, is_normal}
 use Rattle.bts_rows.specs.Rows.{answer, keeping, row}
 use Rattle.bts_rows.proofs.Proper.{AreReasons, SaysWhy, delete_case, errors_status, errors_sub, errors_test, force_case, leave_case, reason_if, reasons_add, reasons_composite, reasons_define, reasons_not_composite, why_for, why_mapped, why_ok, why_own, why_place, why_some, why_target, why_when}
 
@@ -138,7 +137,7 @@ module _ (here : Here) (s : Process) where
       why_target here s target _ λ p a.
       why_when resp.Activityerr reason.Mode (not (is_at_rest a)) _ refl refl
       (why_for resp.Eventerr (family.completion_refusal (number_of p) a.completion (family.pool_of (activity_at (parent_of p) s)).events) _ refl
-          (reasons_completion (number_of p) a.completion (family.pool_of (activity_at (parent_of p) s)).events) tt)
+      (reasons_completion (number_of p) a.completion (family.pool_of (activity_at (parent_of p) s)).events) tt)
   why_family depth (command.Suspend target) = why_complete target _
   why_family depth (command.Resume target) = why_complete target _
   why_family depth _ = (refl, refl)

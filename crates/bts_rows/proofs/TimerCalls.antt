@@ -1,5 +1,5 @@
 -- Timers and their events still fit together behind the commands.
-use Rattle.std.proofs.Common.{◌≡◌, Bool, true, false, cond, not, ◌&&◌, List, [], ◌∷◌, Option, Some, None, is_some, refl, sym, ap, subst, ◌∙◌, true≢false}
+use Rattle.std.proofs.Common.{◌≡◌, Bool, true, false, cond, not, [], ◌∷◌, Option, Some, None, is_some, refl, sym, ap, subst, ◌∙◌}
 use Rattle.std.specs.Map.{keys_of}
 use Rattle.std.specs.Ordering.{nat_cmp}
 use Rattle.std.specs.Cmp.Lexicographic.{slice_cmp}
@@ -10,14 +10,14 @@ use Rattle.bts_event.specs.declared.event.Event.{Event}
 use Rattle.bts_event.specs.declared.event.Event.TheVariants.{Atomic as atomic, Composite as composite}
 use Rattle.bts_event.specs.declared.event.Trigger.{Trigger}
 use Rattle.bts_event.specs.declared.event.Trigger.TheVariants.{Input, Completion, Timer}
-use Rattle.bts_event.specs.Events.{Events, event_of, first_where, is_event_of, is_fired_atomic}
+use Rattle.bts_event.specs.Events.{Events, first_where, is_fired_atomic}
 use Rattle.bts_event.proofs.Orders.{IsRising}
 use Rattle.bts_event.proofs.Same.{same_refl, same_sym}
 use Rattle.bts_timer.specs.declared.timer.Timer.{Timer as OneTimer}
 use Rattle.bts_timer.specs.Due.{is_unexpired}
 use Rattle.bts_timer.specs.Timers.{Timers}
-use Rattle.bts_rows.proofs.Entries.{behind_first, all_at}
-use Rattle.bts_rows.proofs.Keeps.{Keeps, is_owned, is_picked, picked}
+use Rattle.bts_rows.proofs.Entries.{behind_first}
+use Rattle.bts_rows.proofs.Keeps.{Keeps, is_owned, picked}
 use Rattle.bts_rows.proofs.TimerEvents.{HasEvent, TimersFit, trigger_at}
 
 -- ---- what fires an event, and what a test picks

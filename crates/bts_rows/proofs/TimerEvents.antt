@@ -1,5 +1,5 @@
 -- The timers of an activity and their events, as they are read under their names.
-use Rattle.std.proofs.Common.{◌≡◌, Bool, true, false, cond, not, ◌&&◌, ◌||◌, List, [], ◌∷◌, Option, Some, None, is_some, count_by, nat_eq, refl, sym, ap, subst, ◌∙◌, true≢false}
+use Rattle.std.proofs.Common.{◌≡◌, Bool, true, false, not, ◌||◌, Option, Some, None, is_some, count_by, nat_eq, refl, sym, ap, ◌∙◌}
 use Rattle.std.specs.List.{list_all, list_any}
 use Rattle.std.specs.Map.{keys_of}
 use Rattle.std.proofs.lemmas.Bool.{eqb-true, eq-eqb}
@@ -17,7 +17,7 @@ use Rattle.bts_timer.specs.Due.{is_unexpired}
 use Rattle.bts_timer.specs.Timers.{Timers}
 use Rattle.bts_tree.specs.declared.activity.Activity.{Activity}
 use Rattle.bts_tree.specs.Soundness.{HasTimerEvents, is_fired, is_timer_event}
-use Rattle.bts_rows.proofs.Entries.{HasOne, Passes, all_at, all_from, any_at, any_from, one_at, one_from}
+use Rattle.bts_rows.proofs.Entries.{HasOne, all_at, all_from, any_at, any_from, one_at, one_from}
 
 -- what fires the event under a name, if it is atomic
 abbrev pub trigger_at : Option Event → Option Trigger
@@ -96,7 +96,7 @@ module _ (a : Activity) (timers_rise : IsRising (keys_of a.timers)) (events_rise
     timer_of n t k =
         let f = found_from n t a.pool.events k in
         let some = or_true (is_timer_event f.value) _ (is_timer_from f.value t (ap trigger_at (sym f.found) ∙ k))
-            (all_at (λ (e : Name × Event). not (is_timer_event e.1) || list_any (λ (y : Name × OneTimer). is_event_of y.0 e.1) a.timers) a.pool.events n f.value h.timer_of_each f.found) in
+        (all_at (λ (e : Name × Event). not (is_timer_event e.1) || list_any (λ (y : Name × OneTimer). is_event_of y.0 e.1) a.timers) a.pool.events n f.value h.timer_of_each f.found) in
         let p = any_at (λ (y : Name × OneTimer). is_event_of y.0 f.value) a.timers timers_rise some in
         let e : Timer p.name ≡ Timer t = let l = fires_from f.value p.name p.passed in let r = ap trigger_at (sym f.found) ∙ k in cc in
         let q : p.name ≡ t = cc in
@@ -115,7 +115,7 @@ module _ (a : Activity) (timers_rise : IsRising (keys_of a.timers)) (events_rise
       unexpired = λ n t x k there u.
           let f = found_from n t a.pool.events k in
           let all = or_true (is_unexpired x) _ u
-              (all_at (λ (y : Name × OneTimer). not (is_unexpired y.1) || list_all (λ e. not (is_event_of y.0 e.1) || not (is_fired e.1)) a.pool.events) a.timers t x h.unexpired there) in
+          (all_at (λ (y : Name × OneTimer). not (is_unexpired y.1) || list_all (λ e. not (is_event_of y.0 e.1) || not (is_fired e.1)) a.pool.events) a.timers t x h.unexpired there) in
           let one = or_true (is_event_of t f.value) _ f.is_its (all_at (λ (e : Name × Event). not (is_event_of t e.1) || not (is_fired e.1)) a.pool.events n f.value all f.found) in
           ap is_fired_atomic f.found ∙ not_so (is_fired f.value) one;
     }
@@ -158,11 +158,11 @@ module _ (a : Activity) (timers_rise : IsRising (keys_of a.timers)) (events_rise
         (λ t x k. eq-eqb _ _ (one_from (λ (e : Name × Event). is_event_of t e.1) a.pool.events events_rise (one_event_of t x k)));
     timer_of_each = all_from (λ (e : Name × Event). not (is_timer_event e.1) || list_any (λ (y : Name × OneTimer). is_event_of y.0 e.1) a.timers) a.pool.events events_rise
         (λ n v k. if_so (is_timer_event v) _ (λ h.
-            let y = is_timers v h in
-            there_case (list_any (λ (z : Name × OneTimer). is_event_of z.0 v) a.timers ≡ true) (lookup y.timer a.timers) (f.has_timer n y.timer (ap trigger_at k ∙ y.fires))
-            (λ x there. any_from (λ (z : Name × OneTimer). is_event_of z.0 v) a.timers y.timer x there (is_event_from v y.timer y.fires))));
+        let y = is_timers v h in
+        there_case (list_any (λ (z : Name × OneTimer). is_event_of z.0 v) a.timers ≡ true) (lookup y.timer a.timers) (f.has_timer n y.timer (ap trigger_at k ∙ y.fires))
+        (λ x there. any_from (λ (z : Name × OneTimer). is_event_of z.0 v) a.timers y.timer x there (is_event_from v y.timer y.fires))));
     unexpired = all_from (λ (y : Name × OneTimer). not (is_unexpired y.1) || list_all (λ e. not (is_event_of y.0 e.1) || not (is_fired e.1)) a.pool.events) a.timers timers_rise
         (λ t x there. if_so (is_unexpired x) _ (λ u.
-            all_from (λ (e : Name × Event). not (is_event_of t e.1) || not (is_fired e.1)) a.pool.events events_rise
-            (λ n v k. if_so (is_event_of t v) _ (λ its. so_not (is_fired v) (sym (ap is_fired_atomic k) ∙ f.unexpired n t x (ap trigger_at k ∙ fires_from v t its) there u)))));
+        all_from (λ (e : Name × Event). not (is_event_of t e.1) || not (is_fired e.1)) a.pool.events events_rise
+        (λ n v k. if_so (is_event_of t v) _ (λ its. so_not (is_fired v) (sym (ap is_fired_atomic k) ∙ f.unexpired n t x (ap trigger_at k ∙ fires_from v t its) there u)))));
   }
