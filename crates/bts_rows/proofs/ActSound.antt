@@ -59,9 +59,6 @@ tree_case : (o : Option Activities) (p : ActivityPath) → is_some (lookup p (un
 tree_case None p h = cc
 tree_case (Some t) p h = refl
 
-some_if : {A : Type 0} (o : Option A) (x : A) → o ≡ Some x → is_some o ≡ true
-some_if o x h = ap is_some h
-
 -- ---- names of programs
 
 users_name : (n : Name) → is_systems n ≡ false → same n initial_name ≡ false
