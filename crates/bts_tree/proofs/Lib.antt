@@ -1,0 +1,10 @@
+pub mod Alike
+pub mod Emptied
+pub mod Examples
+pub mod Finds
+pub mod Least
+pub mod New
+pub mod Orders
+pub mod Paths
+pub mod Retained
+pub mod Slots

@@ -1,0 +1,12 @@
+use Rattle.std.proofs.Common.{◌≡◌}
+use Rattle.bts_tree.specs.Keeping as keeping
+use Rattle.bts_tree.specs.Repositories as repo
+use Rattle.bts_tree.proofs.due.next_due.Given as goal
+
+-- what is left has the answer
+abbrev pub invariant-loop-key : goal.invariant-loop-key
+invariant-loop-key l =
+    (goal.iterator-loop-key).can_next l.key-iterator ×
+    (goal.iterator-loop-key).is_finite l.key-iterator ×
+    (repo.first_behind repo.timer_place_cmp l.after (repo.due_in l.now (keeping.processes_of l.map.entries))
+    ≡ repo.first_behind repo.timer_place_cmp l.after (repo.due_in l.now (keeping.processes_of l.key-iterator)))

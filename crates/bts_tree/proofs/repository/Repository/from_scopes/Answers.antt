@@ -1,0 +1,19 @@
+use Rattle.std.proofs.Common.{rules, ◌≡◌, ◌∙◌, sym, ap, subst}
+use Rattle.std.specs.List.Sorted.{IsStrictlySortedBy}
+use Rattle.std.specs.Map.{keys_of}
+use Rattle.std.specs.Prelude.{map}
+use Rattle.bts_names.specs.Keys.{key_cmp}
+use Rattle.bts_tree.proofs.Slots.{keys_of_held, stored_made}
+use Rattle.bts_tree.proofs.repository.Repository.from_scopes.Goals as goal
+use Rattle.bts_tree.specs.Keeping as keeping
+
+pub map_of-requires : goal.map_of-requires
+map_of-requires c =
+    let slots : c.in_ok-slots.slots.items ≡ keeping.slots_of (map (λ h. h.process) c.args.scopes.items) = search rules in
+    subst (IsStrictlySortedBy key_cmp) (sym (ap keys_of slots ∙ keys_of_held c.args.scopes.items)) c.requires
+
+pub returns : goal.returns
+returns c =
+    let slots : c.in_ok-slots.slots.items ≡ keeping.slots_of (map (λ h. h.process) c.args.scopes.items) = search rules in
+    let made : c.in_ok-map.map.entries ≡ c.in_ok-slots.slots.items = search rules in
+    stored_made (map (λ h. h.process) c.args.scopes.items) c.in_ok-map.map.entries (made ∙ slots)

@@ -1,0 +1,10 @@
+pub mod Activities
+pub mod Fields
+pub mod Keeping
+pub mod Lending
+pub mod Modes
+pub mod Paths
+pub mod Processes
+pub mod Repositories
+pub mod Scopes
+pub mod Soundness

@@ -1,0 +1,96 @@
+// What a repository holds under a key.
+ghost use Rattle.std.specs.Prelude.{◌≡◌, ◌↔◌, IsTrue, IfOk, None, Some};
+ghost use Rattle.std.specs.Option.{option_copied};
+ghost use Rattle.bts_tree.specs.Keeping as keeping;
+ghost use Rattle.bts_tree.specs.Scopes.{held_whole};
+
+use crate::{Scope, Tree};
+use bts_container::ContainerPool;
+use bts_names::{Key, NoMemory};
+use std::alloc::Global;
+
+/// A process, without its key.
+#[derive(Drop)]
+pub(crate) struct Kept {
+    pub generation: u64,
+    pub tree: Option<Tree>,
+    pub containers: ContainerPool,
+}
+
+impl Kept {
+    pub fn copy(&self, alloc: Global) -> Result<Kept, NoMemory>
+        ensures { IfOk result (λ copy. copy ≡ self.now) }
+    {
+        let tree = copy_tree(alloc, &self.tree)?;
+        let containers = self.containers.copy(alloc)?;
+        Ok(Kept {
+            generation: self.generation,
+            tree,
+            containers,
+        })
+    }
+
+    pub fn into_scope(self, key: Key) -> Scope
+        ensures { result ≡ held_whole (keeping.process_of key self) }
+    {
+        let Kept {
+            generation,
+            tree,
+            containers,
+        } = self;
+        Scope::from_parts(key, generation, tree, containers)
+    }
+
+    /// Whether it is the scope's process, under the scope's key.
+    pub fn same(&self, scope: &Scope) -> bool
+        ensures { IsTrue result
+            ↔ (keeping.process_of scope.now.process.key self.now ≡ scope.now.process) }
+    {
+        self.generation == scope.generation()
+            && same_trees(&self.tree, scope.tree())
+            && self.containers.same(scope.containers())
+    }
+}
+
+/// What a repository holds behind a put of this scope: no process where it was never defined.
+pub(crate) fn slot_of(scope: Scope) -> Option<Kept>
+    ensures { result ≡ keeping.slot_of scope.process }
+{
+    if scope.generation() == 0 {
+        return None;
+    }
+    Some(kept_of(scope))
+}
+
+pub(crate) fn kept_of(scope: Scope) -> Kept
+    ensures { result ≡ keeping.kept_of scope.process }
+{
+    let (generation, tree, containers) = scope.into_parts();
+    Kept {
+        generation,
+        tree,
+        containers,
+    }
+}
+
+pub(crate) fn copy_tree(alloc: Global, tree: &Option<Tree>) -> Result<Option<Tree>, NoMemory>
+    ensures { IfOk result (λ copy. copy ≡ tree.now) }
+{
+    match tree {
+        None => Ok(None),
+        Some(tree) => {
+            let copy = tree.copy(alloc)?;
+            Ok(Some(copy))
+        }
+    }
+}
+
+fn same_trees(a: &Option<Tree>, b: Option<&Tree>) -> bool
+    ensures { IsTrue result ↔ (a.now ≡ option_copied b.entry) }
+{
+    match (a, b) {
+        (None, None) => true,
+        (Some(a), Some(b)) => a.same(b),
+        _ => false,
+    }
+}

@@ -1,0 +1,90 @@
+// Walks over all processes for what is enabled.
+ghost use Rattle.std.specs.Prelude.{◌≡◌, Some, None};
+ghost use Rattle.std.specs.Option.{option_map};
+ghost use Rattle.bts_tree.specs.Keeping as keeping;
+ghost use Rattle.bts_tree.specs.Repositories as repo;
+
+use crate::kept::Kept;
+use crate::{Activity, Tree};
+use bts_names::{Key, Moment, Name16, Path};
+use bts_timer::TimerPool;
+use std::collections::BTreeMap;
+
+/// Which activities a walk looks for.
+#[derive(Clone, Copy)]
+pub(crate) enum Wanted {
+    Ready,
+    Untold,
+}
+
+impl Wanted {
+    fn wants(self, activity: &Activity) -> bool
+        ensures { result ≡ keeping.wants self activity.now }
+    {
+        match self {
+            Wanted::Ready => activity.is_ready(),
+            Wanted::Untold => activity.is_untold(),
+        }
+    }
+}
+
+/// The first activity that is wanted and stands behind `after`.
+pub(crate) fn next_place(
+    map: &BTreeMap<Key, Option<Kept>>,
+    wanted: Wanted,
+    after: &Option<(Key, Path)>,
+) -> Option<(Key, Path)>
+    ensures { result ≡ repo.first_behind repo.place_cmp after.now
+        (repo.chosen (keeping.wants wanted) (keeping.processes_of map.now.entries)) }
+{
+    for (key, slot) in map {
+        if let Some(path) = next_in_slot(key, slot, wanted, after) {
+            return Some((*key, path));
+        }
+    }
+    None
+}
+
+fn next_in_slot(
+    key: &Key,
+    slot: &Option<Kept>,
+    wanted: Wanted,
+    after: &Option<(Key, Path)>,
+) -> Option<Path>
+    ensures { option_map (λ p. (key.now, p)) result ≡ repo.first_behind repo.place_cmp after.now
+        (repo.chosen_at (keeping.wants wanted) key.now (keeping.activities_in slot.now)) }
+{
+    let Some(kept) = slot else {
+        return None;
+    };
+    let Some(tree) = &kept.tree else {
+        return None;
+    };
+    next_in_tree(key, tree.activities(), wanted, after)
+}
+
+fn next_in_tree(
+    key: &Key,
+    activities: &BTreeMap<Path, Activity>,
+    wanted: Wanted,
+    after: &Option<(Key, Path)>,
+) -> Option<Path>
+    ensures { option_map (λ p. (key.now, p)) result ≡ repo.first_behind repo.place_cmp after.now
+        (repo.chosen_at (keeping.wants wanted) key.now activities.now.entries) }
+{
+    for (path, activity) in activities {
+        if wanted.wants(activity) && is_behind(after, key, path) {
+            return Some(*path);
+        }
+    }
+    None
+}
+
+fn is_behind(after: &Option<(Key, Path)>, key: &Key, path: &Path) -> bool
+    ensures { result ≡ repo.is_behind repo.place_cmp after.now (key.now, path.now) }
+{
+    match after {
+        None => true,
+        Some(place) => place.0 < *key || place.0 == *key && place.1 < *path,
+    }
+}
