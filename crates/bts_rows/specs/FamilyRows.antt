@@ -7,7 +7,6 @@ use Rattle.bts_names.specs.declared.reply.Resp.TheVariants as resp
 use Rattle.bts_names.specs.declared.reply.Reason.{Reason}
 use Rattle.bts_names.specs.declared.reply.Reason.TheVariants as reason
 use Rattle.bts_names.specs.declared.reply.Value.TheVariants as value
-use Rattle.bts_names.specs.declared.state.Mode.TheVariants as mode
 use Rattle.bts_names.specs.declared.state.Status.TheVariants as status
 use Rattle.bts_command.specs.declared.command.Command.{Command}
 use Rattle.bts_command.specs.declared.command.Command.TheVariants as command
@@ -17,11 +16,12 @@ use Rattle.bts_event.specs.declared.event.Event.{Event}
 use Rattle.bts_event.specs.declared.event.Event.TheVariants.{Atomic as atomic, Composite as composite}
 use Rattle.bts_event.specs.declared.event.Trigger.TheVariants.{Completion}
 use Rattle.bts_event.specs.Events.{Events, completion_of, is_completion_of, is_input, new_atomic}
-use Rattle.bts_event.specs.Pool.{Pool, empty_pool, cleared, defined, entered, fired, unfired}
+use Rattle.bts_event.specs.Pool.{Pool, empty_pool, defined, entered, fired, unfired}
 use Rattle.bts_event.specs.Refusals.{define_refusal, is_full}
 use Rattle.bts_tree.specs.declared.activity.Activity.{Activity}
+use Rattle.bts_tree.specs.Modes.{is_reset}
 use Rattle.bts_tree.specs.Paths.{parent_of, number_of}
-use Rattle.bts_tree.specs.Activities.{path_limit, child_limit, new_activity, is_initial, is_dormant, is_complete, is_at_rest, has_entries}
+use Rattle.bts_tree.specs.Activities.{path_limit, child_limit, ended_by, new_activity, is_initial, is_dormant, is_complete, is_at_rest, has_entries}
 use Rattle.bts_tree.specs.Processes.{Process, activity_at, child_of, edited, with_pool, added, removed, complete}
 use Rattle.bts_rows.specs.Targets.{Here, at_own, at_target}
 use Rattle.bts_rows.specs.ActRows.{removed_if}
@@ -148,16 +148,12 @@ with_completion p None s = s
 with_completion p (Some name) s = with_pool (parent_of p) (rearmed (number_of p) name) s
 
 -- the activity is as new, but for its containers, its suspension and its numbers
-abbrev pub renewed : Bool → Activity → Activity
-renewed told a =
-    record a { mode = mode.Initial; status = status.Incomplete; code = None; told = told; pool = cleared a.pool; timers = [] }
-
 abbrev pub reset_row : Here → Process → Target → Answer Process
 reset_row here s target =
     at_target here s target λ p a.
     refuse resp.Activityerr because reason.Mode when not (is_at_rest a) otherwise
     refuse resp.Eventerr for completion_refusal (number_of p) a.completion (pool_of (activity_at (parent_of p) s)).events otherwise
-    done value.Nothing (with_completion p a.completion (edited p (renewed (is_none a.completion)) (removed p false s)))
+    done value.Nothing (with_completion p a.completion (edited p (ended_by is_reset None (is_none a.completion)) (removed p false s)))
 
 abbrev pub suspension_row : Bool → Here → Process → Target → Answer Process
 suspension_row to here s target = unless_complete here s target λ p. edited p (λ b. record b { suspended = to }) s
