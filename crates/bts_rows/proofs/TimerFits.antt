@@ -1,0 +1,194 @@
+-- An activity with a timer more, one less or one FORCED fits in its place.
+use Rattle.std.proofs.Common.{◌≡◌, ℕ, Bool, true, false, cond, not, Option, Some, None, is_some, refl, sym, ap, subst, ◌∙◌, true≢false}
+use Rattle.std.specs.Map.{keys_of}
+use Rattle.std.specs.Map as map
+use Rattle.std.proofs.lemmas.Map.{lookup-set_value, keys-set_value}
+use Rattle.bts_names.specs.Names.{Name, same, same_exact, initial_name}
+use Rattle.bts_names.specs.Named.{lookup, is_there, without}
+use Rattle.bts_names.specs.declared.state.TimerStatus.TheVariants as status
+use Rattle.bts_event.specs.declared.event.Event.{Event}
+use Rattle.bts_event.specs.declared.event.Event.TheVariants.{Atomic as atomic, Composite as composite}
+use Rattle.bts_event.specs.declared.event.Trigger.{Trigger}
+use Rattle.bts_event.specs.declared.event.Trigger.TheVariants.{Timer}
+use Rattle.bts_event.specs.Calls as calls
+use Rattle.bts_event.specs.Events.{Events, event_of, holder, is_composite, is_event_of, is_fired_atomic, new_atomic}
+use Rattle.bts_event.specs.Pool.{defined, deleted, fired, parted, removed, removed_at}
+use Rattle.bts_event.specs.Refusals.{define_refusal, fire_refusal_of}
+use Rattle.bts_event.proofs.Accounts.{after_sound}
+use Rattle.bts_event.proofs.Orders.{IsRising, lookup-in_order, lookup-without}
+use Rattle.bts_event.proofs.Same.{same_laws, same_refl}
+use Rattle.bts_timer.specs.declared.timer.Timer.{Timer as OneTimer}
+use Rattle.bts_timer.specs.Due.{is_unexpired}
+use Rattle.bts_timer.specs.Timers.{Timers, set_where_there, started, with_status}
+use Rattle.bts_tree.specs.declared.activity.Activity.{Activity}
+use Rattle.bts_tree.specs.Soundness.{IsSoundActivity}
+use Rattle.bts_rows.specs.ActRows.{fired_if, removed_if, with_forced, with_timer, without_timer}
+use Rattle.bts_rows.proofs.Keeps.{Keeps, is_owned, is_picked, settled-events}
+use Rattle.bts_rows.proofs.InPlace.{FitsIn}
+use Rattle.bts_rows.proofs.Ordered as ordered
+use Rattle.bts_rows.proofs.PoolKeeps.{define_free, keeps_defined, keeps_deleted, keeps_firing, parted_keeps, parted_rising, picked-firing}
+use Rattle.bts_rows.proofs.TimerCalls.{first_at, first_none, old_trigger, others, picked_from, trigger_from}
+use Rattle.bts_rows.proofs.TimerEvents.{HasEvent, fires_from, found_from, trigger_at}
+use Rattle.bts_rows.proofs.Fits.{fit_now, fits_timers, sound_define, sound_fire}
+
+-- ---- a new timer
+
+module _ (t e : Name) (due : ℕ) (a : Activity) (s : IsSoundActivity a) (no_timer : is_there t a.timers ≡ false) (no_event : define_refusal e a.pool.events ≡ None) (named : same e initial_name ≡ false) where
+  abbrev new : OneTimer
+  new = record { due = due; status = status.Unexpired }
+
+  abbrev behind : Events
+  behind = (defined e (new_atomic (Timer t)) a.pool).events
+
+  read_new : (n : Name) → lookup n behind ≡ cond (same e n) (Some (new_atomic (Timer t))) (lookup n a.pool.events)
+  read_new n = ap (lookup n) (settled-events a.pool.events _) ∙ lookup-in_order a.pool.events e (new_atomic (Timer t)) n
+
+  read_own : lookup e behind ≡ Some (new_atomic (Timer t))
+  read_own = read_new e ∙ ap (λ b. cond b (Some (new_atomic (Timer t))) (lookup e a.pool.events)) (same_refl e)
+
+  new_only : (b : Bool) (n : Name) → same e n ≡ b → trigger_at (cond b (Some (new_atomic (Timer t))) (lookup n a.pool.events)) ≡ Some (Timer t) → n ≡ e
+  new_only true n d h = sym (same_exact e n d)
+  new_only false n d h = absurd (true≢false (sym ((fit_now a s).has_timer n t h) ∙ no_timer))
+
+  is_new : (n : Name) → trigger_at (lookup n behind) ≡ Some (Timer t) → n ≡ e
+  is_new n h = new_only (same e n) n refl (sym (ap trigger_at (read_new n)) ∙ h)
+
+  new_unpicked : is_picked (others t) (Some (new_atomic (Timer t))) ≡ false
+  new_unpicked = ap (λ b. is_some (cond (not b) (Some (Timer t)) None)) (same_refl t)
+
+  pub fits_timer : FitsIn a (with_timer t e due a)
+  fits_timer =
+      fits_timers a s t (Some new) (started t due a.timers) (defined e (new_atomic (Timer t)) a.pool) (sound_define e (Timer t) a.pool s.pool no_event named)
+      (ordered.rising_in_order a.timers t new s.timers_rise)
+      (λ u. ordered.lookup-in_order a.timers t new u)
+      (keeps_defined (others t) e (new_atomic (Timer t)) a.pool (define_free e a.pool.events no_event) new_unpicked)
+      (record {
+        has_event = λ x h. record { name = e; fires = ap trigger_at read_own };
+        one_event = λ n m h g. is_new n h ∙ sym (is_new m g);
+        has_timer = λ n h. refl;
+        unexpired = λ n x h g u. ap (λ m. is_fired_atomic (lookup m behind)) (is_new n h) ∙ ap is_fired_atomic read_own;
+      })
+
+-- ---- the event of a timer
+
+unpicked_from : (test : Trigger → Bool) (o : Option Event) (t : Trigger) → trigger_at o ≡ Some t → test t ≡ false → is_picked test o ≡ false
+unpicked_from test None t h p = refl
+unpicked_from test (Some (composite c)) t h p = refl
+unpicked_from test (Some (atomic a)) t h p = let e : a.trigger ≡ t = cc in ap (λ x. is_some (cond (test x) (Some x) None)) e ∙ ap (λ b. is_some (cond b (Some t) None)) p
+
+-- the event that a timer fires, as it stands in its pool
+pub record TimersEvent (t : Name) (a : Activity) : Type 0 where
+  pub name : Name
+  pub value : Event
+  pub is_its : event_of t a.pool.events ≡ Some name
+  pub found : lookup name a.pool.events ≡ Some value
+  pub fires : trigger_at (lookup name a.pool.events) ≡ Some (Timer t)
+
+event_case : (o : Option Name) (t : Name) (a : Activity) → event_of t a.pool.events ≡ o → IsRising (keys_of a.pool.events) → HasEvent t a.pool.events → TimersEvent t a
+event_case None t a e s h =
+    let f = found_from h.name t a.pool.events h.fires in
+    absurd (true≢false (sym f.is_its ∙ first_none (is_event_of t) a.pool.events h.name f.value e f.found))
+event_case (Some n) t a e s h =
+    let f = first_at (is_event_of t) a.pool.events n s e in
+    record { name = n; value = f.value; is_its = e; found = f.found; fires = ap trigger_at f.found ∙ fires_from f.value t f.passed }
+
+not_composite : (o : Option Event) (t : Trigger) → trigger_at o ≡ Some t → is_composite o ≡ false
+not_composite None t h = refl
+not_composite (Some (atomic a)) t h = refl
+not_composite (Some (composite c)) t h = cc
+
+may_fire : (o : Option Event) (t : Trigger) → trigger_at o ≡ Some t → is_fired_atomic o ≡ false → fire_refusal_of o ≡ None
+may_fire None t h u = cc
+may_fire (Some (composite c)) t h u = cc
+may_fire (Some (atomic a)) t h u = rw u
+
+module _ (t : Name) (x : OneTimer) (a : Activity) (s : IsSoundActivity a) (there : lookup t a.timers ≡ Some x) where
+  event : TimersEvent t a
+  event = event_case (event_of t a.pool.events) t a refl (s.pool).events.ordered ((fit_now a s).has_event t x there)
+
+  own_unpicked : is_picked (others t) (lookup event.name a.pool.events) ≡ false
+  own_unpicked = unpicked_from (others t) (lookup event.name a.pool.events) (Timer t) event.fires (ap not (same_refl t))
+
+  -- ---- a timer and its event go
+
+  abbrev left : Events
+  left = parted event.name (holder a.pool.events event.name) a.pool.events
+
+  left_keeps : Keeps is_owned a.pool.events left
+  left_keeps = parted_keeps is_owned event.name (holder a.pool.events event.name) a.pool.events
+
+  left_rising : IsRising (keys_of left)
+  left_rising = parted_rising is_owned event.name (holder a.pool.events event.name) a.pool.events (s.pool).events.ordered
+
+  read_left : (n : Name) → lookup n (deleted event.name a.pool).events ≡ cond (same event.name n) None (lookup n left)
+  read_left n = ap (lookup n) (settled-events a.pool.events _) ∙ lookup-without left event.name n left_rising
+
+  none_left : (b : Bool) (n : Name) → same event.name n ≡ b → trigger_at (cond b None (lookup n left)) ≡ Some (Timer t) → ⊥
+  none_left true n d h = cc
+  none_left false n d h =
+      let old = old_trigger is_owned a.pool.events left left_keeps n (Timer t) refl h in
+      let q : n ≡ event.name = (fit_now a s).one_event n event.name t old event.fires in
+      true≢false (sym (ap (same event.name) q ∙ same_refl event.name) ∙ d)
+
+  gone : (n : Name) → trigger_at (lookup n (deleted event.name a.pool).events) ≡ Some (Timer t) → ⊥
+  gone n h = none_left (same event.name n) n refl (sym (ap trigger_at (read_left n)) ∙ h)
+
+  removed_is : removed event.name a.pool ≡ deleted event.name a.pool
+  removed_is = ap (λ o. removed_at o event.name a.pool) event.found
+
+  fits_removed : let b : Activity = record a { pool = removed event.name a.pool; timers = without t a.timers } in FitsIn a b
+  fits_removed =
+      fits_timers a s t None (without t a.timers) (removed event.name a.pool)
+      (after_sound (calls.remove event.name) a.pool (not_composite (lookup event.name a.pool.events) (Timer t) event.fires) s.pool)
+      (ordered.rising_without a.timers t s.timers_rise)
+      (λ u. ordered.lookup-without a.timers t u s.timers_rise)
+      (subst (λ p. Keeps (others t) a.pool.events p.events) (sym removed_is) (keeps_deleted (others t) event.name a.pool (s.pool).events.ordered own_unpicked))
+      (record {
+        has_event = λ y h. cc;
+        one_event = λ n m h g. absurd (gone n (sym (ap (λ p. trigger_at (lookup n p.events)) removed_is) ∙ h));
+        has_timer = λ n h. absurd (gone n (sym (ap (λ p. trigger_at (lookup n p.events)) removed_is) ∙ h));
+        unexpired = λ n y h g u. cc;
+      })
+
+  pub fits_without : FitsIn a (without_timer t a)
+  fits_without = subst (λ o. let b : Activity = record a { pool = removed_if o a.pool; timers = without t a.timers } in FitsIn a b) (sym event.is_its) fits_removed
+
+  -- ---- a timer is forced
+
+  module _ (unexpired : is_unexpired x ≡ true) where
+    abbrev forced : OneTimer
+    forced = record { due = x.due; status = status.Forced }
+
+    abbrev ended : Timers
+    ended = map.set_value (same t) a.timers forced
+
+    abbrev behind_firing : Events
+    behind_firing = (fired event.name a.pool).events
+
+    same_trigger : (n : Name) → trigger_at (lookup n behind_firing) ≡ Some (Timer t) → trigger_at (lookup n a.pool.events) ≡ Some (Timer t)
+    same_trigger n h = trigger_from is_owned (lookup n a.pool.events) (Timer t) (sym (picked-firing is_owned event.name a.pool n) ∙ picked_from is_owned (lookup n behind_firing) (Timer t) h refl)
+
+    still_fires : trigger_at (lookup event.name behind_firing) ≡ Some (Timer t)
+    still_fires = trigger_from is_owned (lookup event.name behind_firing) (Timer t) (picked-firing is_owned event.name a.pool event.name ∙ picked_from is_owned (lookup event.name a.pool.events) (Timer t) event.fires refl)
+
+    unfired : is_fired_atomic (lookup event.name a.pool.events) ≡ false
+    unfired = (fit_now a s).unexpired event.name t x event.fires there unexpired
+
+    fits_fired : let b : Activity = record a { pool = fired event.name a.pool; timers = ended } in FitsIn a b
+    fits_fired =
+        fits_timers a s t (Some forced) ended (fired event.name a.pool)
+        (sound_fire event.name a.pool s.pool (may_fire (lookup event.name a.pool.events) (Timer t) event.fires unfired))
+        (subst IsRising (sym (keys-set_value (same t) a.timers forced)) s.timers_rise)
+        (λ u. lookup-set_value same_laws (same t) (λ y z e. ap (λ n. same n z) (same_exact t y e)) u forced a.timers (ap is_some there))
+        (keeps_firing (others t) event.name a.pool own_unpicked)
+        (record {
+          has_event = λ y h. record { name = event.name; fires = still_fires };
+          one_event = λ n m h g. (fit_now a s).one_event n m t (same_trigger n h) (same_trigger m g);
+          has_timer = λ n h. refl;
+          unexpired = λ n y h g u. let q : forced ≡ y = cc in absurd (true≢false (sym u ∙ ap is_unexpired (sym q)));
+        })
+
+    pub fits_forced : FitsIn a (with_forced t a)
+    fits_forced =
+        subst (λ o. let b : Activity = record a { pool = fired_if o a.pool; timers = with_status status.Forced t a.timers } in FitsIn a b) (sym event.is_its)
+        (subst (λ o. let b : Activity = record a { pool = fired event.name a.pool; timers = set_where_there status.Forced t a.timers o } in FitsIn a b) (sym there) fits_fired)

@@ -1,0 +1,49 @@
+// What holds of every command, in whatever frame it stands.
+ghost use Rattle.std.specs.Prelude.{◌≡◌, ℕ, List, IsSome, false};
+ghost use Rattle.std.specs.List.Sorted.{IsStrictlySortedBy};
+ghost use Rattle.std.specs.Map.{keys_of};
+ghost use Rattle.std.specs.Ordering.{nat_cmp};
+ghost use Rattle.std.specs.Cmp.Lexicographic.{slice_cmp};
+ghost use Rattle.bts_names.specs.Answer.{left_by, reply_of};
+ghost use Rattle.bts_names.specs.Names.{ActivityPath};
+ghost use Rattle.bts_command.specs.declared.command.Command.{Command};
+ghost use Rattle.bts_tree.specs.Processes.{Process, activities, activity_at};
+ghost use Rattle.bts_tree.specs.Soundness.{IsSoundInFrames};
+ghost use Rattle.bts_rows.specs.ActRows.{act_row};
+ghost use Rattle.bts_rows.specs.Given.{IsGiven};
+ghost use Rattle.bts_rows.specs.Replies.{IsProper, is_normal};
+ghost use Rattle.bts_rows.specs.Rows.{act_at, answer};
+ghost use Rattle.bts_rows.specs.Targets.{Here, in_activity, in_request};
+ghost use Rattle.bts_rows.specs.declared.held.Held.{Held};
+
+/// A reply that is NORMAL has no reason, and every other one has a reason and no value.
+pub fn replies_say_why()
+    ensures { (here : Here) (held : Held) (depth now : ℕ) (s : Process) (c : Command)
+        → IsProper (reply_of (answer here held depth now s c)) }
+{}
+
+/// A command that isn't answered NORMAL leaves the process, and what the request has acquired, as they were.
+pub fn a_refused_command_changes_nothing()
+    ensures { (here : Here) (held : Held) (depth now : ℕ) (s : Process) (c : Command)
+        → let row = answer here held depth now s c in is_normal (reply_of row).resp ≡ false
+        → left_by (s, held) row ≡ (s, held) }
+{}
+
+/// Each command on containers, events and timers leaves a sound process sound, with the same open frames: in the
+/// frame of an activity that is there, and in a request's first frame.
+pub fn commands_of_one_activity_keep_soundness()
+    ensures frame { (frames : List ActivityPath) (path : ActivityPath) (now : ℕ) (s : Process) (c : Command)
+        → IsSome (activity_at path s) → IsGiven c → IsSoundInFrames frames s
+        → IsSoundInFrames frames (left_by s (act_at path now s c)) }
+    ensures request { (frames : List ActivityPath) (held : Held) (now : ℕ) (s : Process) (c : Command)
+        → IsGiven c → IsSoundInFrames frames s
+        → IsSoundInFrames frames (left_by s (act_row (in_request held) now s c)) }
+{}
+
+/// In an activity's frame a command is read on the part of the process at its path, and the part is joined. That is
+/// what it answers and leaves when it is read on the whole process: so it touches nothing outside that part.
+pub fn a_frame_reads_its_part()
+    ensures { (path : ActivityPath) (now : ℕ) (s : Process) (c : Command)
+        → IsStrictlySortedBy (slice_cmp nat_cmp) (keys_of (activities s))
+        → act_at path now s c ≡ act_row (in_activity path) now s c }
+{}
