@@ -1,5 +1,4 @@
 pub mod Alike
-pub mod Emptied
 pub mod Examples
 pub mod Finds
 pub mod Least

@@ -99,7 +99,7 @@ impl Activity {
         self.code = code;
         self.told = told;
         self.pool.clear();
-        clear_timers(&mut self.timers);
+        self.timers.clear();
     }
 
     /// What becomes of it where an activity above it becomes COMPLETE.
@@ -187,13 +187,5 @@ impl Activity {
             return false;
         }
         self.containers.same(&other.containers)
-    }
-}
-
-fn clear_timers(timers: &mut TimerPool)
-    ensures { timers.new ≡ [] }
-{
-    while let Some(first) = timers.get_index(0) {
-        let _ = timers.delete(first.0);
     }
 }

@@ -1,7 +1,11 @@
 // A process that a unit of work holds.
-ghost use Rattle.std.specs.Prelude.{◌≡◌, ◌∷◌, [], ℕ, length, OnOk, OnErr, IfErr, IfOk, IsSome, IsTrue, true, false, Some, None, is_some, ◌↔◌, ◌<◌, ◌^◌, ◌-◌};
+ghost use Rattle.std.specs.Prelude.{◌≡◌, ◌∷◌, [], ℕ, length, OnOk, OnErr, IfErr, IfOk, IsSome, IfSome, IsTrue, true, false, Some, None, is_some, ◌↔◌, ◌<◌, ◌^◌, ◌-◌};
 ghost use Rattle.std.specs.Borrow.{sem};
+ghost use Rattle.std.specs.List.Sorted.{IsStrictlySortedBy};
+ghost use Rattle.std.specs.Map.{keys_of};
 ghost use Rattle.std.specs.Option.{option_copied, option_map};
+ghost use Rattle.std.specs.Ordering.{nat_cmp};
+ghost use Rattle.std.specs.Cmp.Lexicographic.{slice_cmp};
 ghost use Rattle.bts_tree.specs.Lending.{LendsScopeActivity, LendsContainers};
 ghost use Rattle.bts_tree.specs.Paths.{parent_of};
 ghost use Rattle.bts_tree.specs.Processes as process;
@@ -164,6 +168,17 @@ impl Scope {
         })
     }
 
+    /// What every scope keeps, for the proofs of callers; it does nothing. It is held whole and has no marks, so
+    /// that each path counts as saved.
+    pub fn facts(&self)
+        ensures whole { self.now ≡ scope.held_whole self.now.process }
+        ensures rising { IfSome self.now.process.tree (λ tree. IsStrictlySortedBy (slice_cmp nat_cmp) (keys_of tree)) }
+    {
+        if let Some(tree) = &self.tree {
+            tree.facts();
+        }
+    }
+
     /// Makes a path saved, and where `below` is true the paths of all activities below it. NoMemory comes only
     /// where a mark stands.
     pub fn save(&mut self, path: &Path, below: bool) -> Result<(), NoMemory>
@@ -203,7 +218,7 @@ impl Scope {
     {
         if itself && *path == Path::root() {
             self.tree = None;
-            clear_containers(&mut self.containers);
+            self.containers.clear();
         } else if let Some(tree) = self.tree.as_mut() {
             tree.remove_below(path, itself);
         }
@@ -243,14 +258,5 @@ impl Scope {
             }
             Err(failed) => Err(failed),
         }
-    }
-}
-
-fn clear_containers(containers: &mut ContainerPool)
-    ensures { containers.new ≡ [] }
-{
-    while let Some(first) = containers.get_index(0) {
-        let name = first.0;
-        containers.delete(name);
     }
 }
