@@ -15,11 +15,11 @@ module _ {A : Type 0} (read : Reader A) where
   regroup front x None = refl
   regroup front x (Some y) = ap (λ (xs : List A). Some (xs, y.1)) (sym (append_assoc front (x ∷ []) y.0))
 
-  one_read : (n : ℕ) (bytes after : Bytes) (x : A) → read bytes ≡ Some (x, after) → so_many_at read (suc n) bytes ≡ seen (λ xs. x ∷ xs) (so_many_at read n after)
+  pub one_read : (n : ℕ) (bytes after : Bytes) (x : A) → read bytes ≡ Some (x, after) → so_many_at read (suc n) bytes ≡ seen (λ xs. x ∷ xs) (so_many_at read n after)
   unfolding so_many_at
   one_read n bytes after x e = rw (so_many_at, e) refl
 
-  none_read : (n : ℕ) (bytes : Bytes) → read bytes ≡ None → so_many_at read (suc n) bytes ≡ None
+  pub none_read : (n : ℕ) (bytes : Bytes) → read bytes ≡ None → so_many_at read (suc n) bytes ≡ None
   unfolding so_many_at
   none_read n bytes e = rw (so_many_at, e) refl
 

@@ -13,7 +13,7 @@ use Rattle.bts_names.specs.declared.reply.Leaving.TheVariants as leaving_
 use Rattle.bts_names.specs.declared.reply.Value.{Value}
 use Rattle.bts_names.specs.declared.reply.Value.TheVariants as value_
 use Rattle.bts_names.specs.declared.reply.Reply.{Reply}
-use Rattle.bts_codec.specs.Formats.{Format, Written, written, reads, choice, only, as_parts, nothing, string, ◌&◌}
+use Rattle.bts_codec.specs.Formats.{Format, Reader, Written, written, reads, choice, only, as_parts, nothing, string, ◌&◌}
 use Rattle.bts_codec.specs.Fields.{code, path, flag, resp, reason, mode, status, kind, timer_status}
 
 -- the name of a retrieved event: the system's DFHINITIAL may stand here alone
@@ -58,8 +58,8 @@ value_written (value_.Timer t) = written 6 timer_status t
 value_written (value_.Ran b) = written 7 flag b
 value_written (value_.Left l) = written 8 leaving l
 
-abbrev pub value : Format Value
-value = choice value_written (
+abbrev pub value_readers : List (Reader Value)
+value_readers =
     reads nothing (λ x. value_.Nothing) ∷
     reads string value_.Bytes ∷
     reads path value_.Id ∷
@@ -69,7 +69,10 @@ value = choice value_written (
     reads timer_status value_.Timer ∷
     reads flag value_.Ran ∷
     reads leaving value_.Left ∷
-    [])
+    []
+
+abbrev pub value : Format Value
+value = choice value_written value_readers
 
 -- a reply NORMAL has the reason None; every other one has another reason and the value Nothing
 abbrev pub is_normal : Resp → Bool
