@@ -16,23 +16,32 @@ target_written (target_.Activity a) = written 1 name a
 target_written target_.AcqProcess = written 2 nothing tt
 target_written target_.AcqActivity = written 3 nothing tt
 
+abbrev pub target_readers : List (Reader Target)
+target_readers = never ∷ reads name target_.Activity ∷ reads nothing (λ x. target_.AcqProcess) ∷ reads nothing (λ x. target_.AcqActivity) ∷ []
+
 abbrev pub target : Format Target
-target = choice target_written (never ∷ reads name target_.Activity ∷ reads nothing (λ x. target_.AcqProcess) ∷ reads nothing (λ x. target_.AcqActivity) ∷ [])
+target = choice target_written target_readers
 
 abbrev pub spot_written : Spot → Written
 spot_written spot_.Own = written 0 nothing tt
 spot_written (spot_.Of t) = target_written t
 spot_written spot_.Process = written 4 nothing tt
 
+abbrev pub spot_readers : List (Reader Spot)
+spot_readers = reads nothing (λ x. spot_.Own) ∷ reads name (λ a. spot_.Of (target_.Activity a)) ∷ reads nothing (λ x. spot_.Of target_.AcqProcess) ∷ reads nothing (λ x. spot_.Of target_.AcqActivity) ∷ reads nothing (λ x. spot_.Process) ∷ []
+
 abbrev pub spot : Format Spot
-spot = choice spot_written (reads nothing (λ x. spot_.Own) ∷ reads name (λ a. spot_.Of (target_.Activity a)) ∷ reads nothing (λ x. spot_.Of target_.AcqProcess) ∷ reads nothing (λ x. spot_.Of target_.AcqActivity) ∷ reads nothing (λ x. spot_.Process) ∷ [])
+spot = choice spot_written spot_readers
 
 abbrev pub due_written : Due → Written
 due_written (due_.After n) = written 0 (half 0) n
 due_written (due_.At m) = written 1 moment m
 
+abbrev pub due_readers : List (Reader Due)
+due_readers = reads (half 0) due_.After ∷ reads moment due_.At ∷ []
+
 abbrev pub due : Format Due
-due = choice due_written (reads (half 0) due_.After ∷ reads moment due_.At ∷ [])
+due = choice due_written due_readers
 
 -- nothing, or an acquired target
 abbrev pub acquired_written : Option Target → Written
@@ -41,8 +50,11 @@ acquired_written (Some (target_.Activity a)) = unwritten
 acquired_written (Some target_.AcqProcess) = written 2 nothing tt
 acquired_written (Some target_.AcqActivity) = written 3 nothing tt
 
+abbrev pub acquired_readers : List (Reader (Option Target))
+acquired_readers = reads nothing (λ x. None) ∷ never ∷ reads nothing (λ x. Some target_.AcqProcess) ∷ reads nothing (λ x. Some target_.AcqActivity) ∷ []
+
 abbrev pub acquired : Format (Option Target)
-acquired = choice acquired_written (reads nothing (λ x. None) ∷ never ∷ reads nothing (λ x. Some target_.AcqProcess) ∷ reads nothing (λ x. Some target_.AcqActivity) ∷ [])
+acquired = choice acquired_written acquired_readers
 
 unfoldable pub command_written : Command → Written
 command_written (command_.DefineProcess t p) = written 1 (transid & program) (t, p)

@@ -44,8 +44,11 @@ leaving_written leaving_.Dormant = written 0 nothing tt
 leaving_written leaving_.Complete = written 1 nothing tt
 leaving_written (leaving_.Abended c) = written 2 code c
 
+abbrev pub leaving_readers : List (Reader Leaving)
+leaving_readers = reads nothing (λ x. leaving_.Dormant) ∷ reads nothing (λ x. leaving_.Complete) ∷ reads code leaving_.Abended ∷ []
+
 abbrev pub leaving : Format Leaving
-leaving = choice leaving_written (reads nothing (λ x. leaving_.Dormant) ∷ reads nothing (λ x. leaving_.Complete) ∷ reads code leaving_.Abended ∷ [])
+leaving = choice leaving_written leaving_readers
 
 abbrev pub value_written : Value → Written
 value_written value_.Nothing = written 0 nothing tt

@@ -26,8 +26,11 @@ end_written end_.Commit = written 1 nothing tt
 end_written end_.Rollback = unwritten
 end_written (end_.Abend c) = written 2 code c
 
+abbrev pub end_readers : List (Reader End)
+end_readers = never ∷ reads nothing (λ x. end_.Commit) ∷ reads code end_.Abend ∷ []
+
 abbrev pub end : Format End
-end = choice end_written (never ∷ reads nothing (λ x. end_.Commit) ∷ reads code end_.Abend ∷ [])
+end = choice end_written end_readers
 
 -- the number of a repository's last unit
 abbrev pub last_unit : ℕ

@@ -14,7 +14,7 @@ const HIGH_END: u64 = 1 << 57;
 
 /// Bytes that are read from the front. Contracts see it as the bytes that are left; behind an error
 /// nothing is known of them.
-#[derive(Debug)]
+#[derive(Debug, Drop)]
 pub struct Cursor<'a> {
     left: &'a [u8],
 }

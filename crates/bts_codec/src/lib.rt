@@ -3,6 +3,7 @@
 
 mod arguments;
 mod calls;
+mod codec;
 mod commands;
 mod cursor;
 mod decode_error;
@@ -14,4 +15,5 @@ mod strings;
 mod units;
 mod words;
 
+pub use codec::{decode, encode, no_payload_begins_another, reads_what_is_spelled};
 pub use decode_error::DecodeError;
