@@ -52,7 +52,7 @@ module _ {A : Type 0} (spelled : A → Written) where
         let one : (bytes ≡ f.spell seen.value ++ rest) × IsTrue (f.fits seen.value) = hf bytes rest seen.value seen.is in
         let here : IsSpelled seen.value = same seen.value in
         subst (λ (z : A). (tag ∷ bytes ≡ (spelled z).bytes ++ rest) × IsTrue (spelled z).fits) seen.made
-          (ap (λ (t : Bytes). tag ∷ t) one.0 ∙ ap (λ (t : Bytes). t ++ rest) (sym here.bytes), here.fits one.1)
+        (ap (λ (t : Bytes). tag ∷ t) one.0 ∙ ap (λ (t : Bytes). t ++ rest) (sym here.bytes), here.fits one.1)
 
     -- where this holds by computing
     pub tagged : ((y : B) → spelled (make y) ≡ written tag f y) → TakesSpelling f → ReadsTagged tag (reads f make)
@@ -100,5 +100,5 @@ module _ {A : Type 0} (f : Format A) where
   optional_is hf = record {
     again = optional_again hf.again;
     takes = choice_takes (optional_written f) (reads nothing (λ x. None) ∷ reads f Some ∷ [])
-      (tagged (optional_written f) 0 nothing (λ x. None) (λ y. refl) nothing_is.takes, (tagged (optional_written f) 1 f Some (λ y. refl) hf.takes, tt));
+        (tagged (optional_written f) 0 nothing (λ x. None) (λ y. refl) nothing_is.takes, (tagged (optional_written f) 1 f Some (λ y. refl) hf.takes, tt));
   }

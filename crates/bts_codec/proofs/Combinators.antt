@@ -51,9 +51,10 @@ module _ {A B : Type 0} (f : Format A) (g : Format B) where
       let second : Seen (λ b. (y.0, b)) (g.at y.1) x rest = seen_of (λ b. (y.0, b)) (g.at y.1) x rest e in
       let one : (bytes ≡ f.spell y.0 ++ y.1) × IsTrue (f.fits y.0) = hf bytes y.1 y.0 at in
       let two : (y.1 ≡ g.spell second.value ++ rest) × IsTrue (g.fits second.value) = hg y.1 rest second.value second.is in
-      subst (λ (z : A × B). (bytes ≡ (f & g).spell z ++ rest) × IsTrue ((f & g).fits z)) second.made
-        ( one.0 ∙ ap (λ (m : Bytes). f.spell y.0 ++ m) two.0 ∙ sym (append_assoc (f.spell y.0) (g.spell second.value) rest)
-        , and_both (f.fits y.0) (g.fits second.value) one.1 two.1 )
+      subst (λ (z : A × B). (bytes ≡ (f & g).spell z ++ rest) × IsTrue ((f & g).fits z)) second.made (
+        one.0 ∙ ap (λ (m : Bytes). f.spell y.0 ++ m) two.0 ∙ sym (append_assoc (f.spell y.0) (g.spell second.value) rest),
+        and_both (f.fits y.0) (g.fits second.value) one.1 two.1,
+      )
 
   pub pair_is : IsFormat f → IsFormat g → IsFormat (f & g)
   pair_is hf hg = record { again = pair_again hf.again hg.again; takes = λ bytes rest x e. pair_from hf.takes hg.takes bytes rest x (f.at bytes) refl e }
@@ -106,9 +107,10 @@ string_cut bytes rest s n false at h e =
     let long : n.0 ≤ length n.1 = ltb-false (length n.1) n.0 h in
     let len : n.0 ≡ length s = rw (← front) (omega (arith, length-take n.0 n.1)) in
     let one : (bytes ≡ number.spell n.0 ++ n.1) × IsTrue (number.fits n.0) = number_is.takes bytes n.1 n.0 at in
-    let behind : n.1 ≡ s ++ rest = sym (take-append-drop n.0 n.1) ∙ ap (λ (t : Bytes). t ++ drop n.0 n.1) front ∙ ap (λ (t : Bytes). s ++ t) back in
-    ( one.0 ∙ ap (λ (k : ℕ). number.spell k ++ n.1) len ∙ ap (λ (t : Bytes). number.spell (length s) ++ t) behind ∙ sym (append_assoc (number.spell (length s)) s rest)
-    , subst (λ (k : ℕ). IsTrue (number.fits k)) len one.1 )
+    let behind : n.1 ≡ s ++ rest = sym (take-append-drop n.0 n.1) ∙ ap (λ (t : Bytes). t ++ drop n.0 n.1) front ∙ ap (λ (t : Bytes). s ++ t) back in (
+      one.0 ∙ ap (λ (k : ℕ). number.spell k ++ n.1) len ∙ ap (λ (t : Bytes). number.spell (length s) ++ t) behind ∙ sym (append_assoc (number.spell (length s)) s rest),
+      subst (λ (k : ℕ). IsTrue (number.fits k)) len one.1,
+    )
 
 string_from : (bytes rest s : Bytes) (found : Option (ℕ × Bytes)) → number.at bytes ≡ found → bytes_behind found ≡ Some (s, rest) → (bytes ≡ string.spell s ++ rest) × IsTrue (string.fits s)
 string_from bytes rest s None at e = absurd (cc e)
@@ -164,9 +166,10 @@ module _ {A : Type 0} (f : Format A) where
   at_most_from most hf bytes rest xs (Some n) at e =
       let one : (bytes ≡ number.spell n.0 ++ n.1) × IsTrue ((number_from 0 most).fits n.0) = (number_from_is 0 most).takes bytes n.1 n.0 at in
       let two : AreRead n.0 n.1 xs rest = so_many_takes hf n.0 n.1 xs rest e in
-      let len : n.0 ≡ length xs = sym two.count in
-      ( one.0 ∙ ap (λ (k : ℕ). number.spell k ++ n.1) len ∙ ap (λ (t : Bytes). number.spell (length xs) ++ t) two.spelled ∙ sym (append_assoc (number.spell (length xs)) (flat_map f.spell xs) rest)
-      , and_both ((number_from 0 most).fits (length xs)) (list_all f.fits xs) (subst (λ (k : ℕ). IsTrue ((number_from 0 most).fits k)) len one.1) two.fits )
+      let len : n.0 ≡ length xs = sym two.count in (
+        one.0 ∙ ap (λ (k : ℕ). number.spell k ++ n.1) len ∙ ap (λ (t : Bytes). number.spell (length xs) ++ t) two.spelled ∙ sym (append_assoc (number.spell (length xs)) (flat_map f.spell xs) rest),
+        and_both ((number_from 0 most).fits (length xs)) (list_all f.fits xs) (subst (λ (k : ℕ). IsTrue ((number_from 0 most).fits k)) len one.1) two.fits,
+      )
 
   pub at_most_is : (most : ℕ) → IsFormat f → IsFormat (at_most most f)
   at_most_is most hf = record { again = at_most_again most hf.again; takes = λ bytes rest xs e. at_most_from most hf.takes bytes rest xs ((number_from 0 most).at bytes) refl e }

@@ -18,12 +18,19 @@ target_again target_.AcqProcess rest fits = refl
 target_again target_.AcqActivity rest fits = refl
 
 target_takes : TakesSpelling target
-target_takes = choice_takes target_written target_readers
-  ( never_reads target_written 0
-  , ( tagged target_written 1 name target_.Activity (λ y. refl) name_is.takes
-  , ( tagged target_written 2 nothing (λ x. target_.AcqProcess) (λ y. refl) nothing_is.takes
-  , ( tagged target_written 3 nothing (λ x. target_.AcqActivity) (λ y. refl) nothing_is.takes
-  , tt ) ) ) )
+target_takes = choice_takes target_written target_readers (
+  never_reads target_written 0,
+  (
+    tagged target_written 1 name target_.Activity (λ y. refl) name_is.takes,
+    (
+      tagged target_written 2 nothing (λ x. target_.AcqProcess) (λ y. refl) nothing_is.takes,
+      (
+        tagged target_written 3 nothing (λ x. target_.AcqActivity) (λ y. refl) nothing_is.takes,
+        tt,
+      ),
+    ),
+  ),
+)
 
 target_is : IsFormat target
 target_is = record { again = target_again; takes = target_takes }
@@ -36,13 +43,22 @@ spot_again (spot_.Of target_.AcqProcess) rest fits = refl
 spot_again (spot_.Of target_.AcqActivity) rest fits = refl
 
 spot_takes : TakesSpelling spot
-spot_takes = choice_takes spot_written spot_readers
-  ( tagged spot_written 0 nothing (λ x. spot_.Own) (λ y. refl) nothing_is.takes
-  , ( tagged spot_written 1 name (λ a. spot_.Of (target_.Activity a)) (λ y. refl) name_is.takes
-  , ( tagged spot_written 2 nothing (λ x. spot_.Of target_.AcqProcess) (λ y. refl) nothing_is.takes
-  , ( tagged spot_written 3 nothing (λ x. spot_.Of target_.AcqActivity) (λ y. refl) nothing_is.takes
-  , ( tagged spot_written 4 nothing (λ x. spot_.Process) (λ y. refl) nothing_is.takes
-  , tt ) ) ) ) )
+spot_takes = choice_takes spot_written spot_readers (
+  tagged spot_written 0 nothing (λ x. spot_.Own) (λ y. refl) nothing_is.takes,
+  (
+    tagged spot_written 1 name (λ a. spot_.Of (target_.Activity a)) (λ y. refl) name_is.takes,
+    (
+      tagged spot_written 2 nothing (λ x. spot_.Of target_.AcqProcess) (λ y. refl) nothing_is.takes,
+      (
+        tagged spot_written 3 nothing (λ x. spot_.Of target_.AcqActivity) (λ y. refl) nothing_is.takes,
+        (
+          tagged spot_written 4 nothing (λ x. spot_.Process) (λ y. refl) nothing_is.takes,
+          tt,
+        ),
+      ),
+    ),
+  ),
+)
 
 spot_is : IsFormat spot
 spot_is = record { again = spot_again; takes = spot_takes }
@@ -52,10 +68,13 @@ due_again (due_.After n) rest fits = rw ((half_is 0).again n rest fits) refl
 due_again (due_.At m) rest fits = rw (moment_is.again m rest fits) refl
 
 due_takes : TakesSpelling due
-due_takes = choice_takes due_written due_readers
-  ( tagged due_written 0 (half 0) due_.After (λ y. refl) (half_is 0).takes
-  , ( tagged due_written 1 moment due_.At (λ y. refl) moment_is.takes
-  , tt ) )
+due_takes = choice_takes due_written due_readers (
+  tagged due_written 0 (half 0) due_.After (λ y. refl) (half_is 0).takes,
+  (
+    tagged due_written 1 moment due_.At (λ y. refl) moment_is.takes,
+    tt,
+  ),
+)
 
 due_is : IsFormat due
 due_is = record { again = due_again; takes = due_takes }
@@ -67,12 +86,19 @@ acquired_again (Some target_.AcqProcess) rest fits = refl
 acquired_again (Some target_.AcqActivity) rest fits = refl
 
 acquired_takes : TakesSpelling acquired
-acquired_takes = choice_takes acquired_written acquired_readers
-  ( tagged acquired_written 0 nothing (λ x. None) (λ y. refl) nothing_is.takes
-  , ( never_reads acquired_written 1
-  , ( tagged acquired_written 2 nothing (λ x. Some target_.AcqProcess) (λ y. refl) nothing_is.takes
-  , ( tagged acquired_written 3 nothing (λ x. Some target_.AcqActivity) (λ y. refl) nothing_is.takes
-  , tt ) ) ) )
+acquired_takes = choice_takes acquired_written acquired_readers (
+  tagged acquired_written 0 nothing (λ x. None) (λ y. refl) nothing_is.takes,
+  (
+    never_reads acquired_written 1,
+    (
+      tagged acquired_written 2 nothing (λ x. Some target_.AcqProcess) (λ y. refl) nothing_is.takes,
+      (
+        tagged acquired_written 3 nothing (λ x. Some target_.AcqActivity) (λ y. refl) nothing_is.takes,
+        tt,
+      ),
+    ),
+  ),
+)
 
 acquired_is : IsFormat acquired
 acquired_is = record { again = acquired_again; takes = acquired_takes }
@@ -163,40 +189,103 @@ command_again command_.Rollback rest fits = refl
 
 command_takes : TakesSpelling command
 unfolding command_written command_readers
-command_takes = choice_takes command_written command_readers
-  ( never_reads command_written 0
-  , ( tagged command_written 1 (transid & program) (λ x. command_.DefineProcess x.0 x.1) (λ y. refl) transid_program_is.takes
-  , ( tagged command_written 2 nothing (λ x. command_.AcquireProcess) (λ y. refl) nothing_is.takes
-  , ( tagged command_written 3 path command_.AcquireActivity (λ y. refl) path_is.takes
-  , ( tagged command_written 4 nothing (λ x. command_.PurgeProcess) (λ y. refl) nothing_is.takes
-  , ( tagged command_written 5 (name & optional name & transid & program) (λ x. command_.DefineActivity x.0 x.1.0 x.1.1.0 x.1.1.1) (λ y. refl) name_option_transid_program_is.takes
-  , ( tagged command_written 6 name command_.DeleteActivity (λ y. refl) name_is.takes
-  , ( tagged command_written 7 (target & flag & optional name) (λ x. command_.Run x.0 x.1.0 x.1.1) (λ y. refl) target_flag_option_is.takes
-  , ( tagged command_written 8 (target & optional name) (λ x. command_.Link x.0 x.1) (λ y. refl) target_option_is.takes
-  , ( tagged command_written 9 target command_.Check (λ y. refl) target_is.takes
-  , ( tagged command_written 10 target command_.Cancel (λ y. refl) target_is.takes
-  , ( tagged command_written 11 target command_.Reset (λ y. refl) target_is.takes
-  , ( tagged command_written 12 target command_.Suspend (λ y. refl) target_is.takes
-  , ( tagged command_written 13 target command_.Resume (λ y. refl) target_is.takes
-  , ( tagged command_written 14 (name & spot & string) (λ x. command_.PutContainer x.0 x.1.0 x.1.1) (λ y. refl) name_spot_string_is.takes
-  , ( tagged command_written 15 (name & spot) (λ x. command_.GetContainer x.0 x.1) (λ y. refl) name_spot_is.takes
-  , ( tagged command_written 16 (name & spot) (λ x. command_.DeleteContainer x.0 x.1) (λ y. refl) name_spot_is.takes
-  , ( tagged command_written 17 name command_.DefineInput (λ y. refl) name_is.takes
-  , ( tagged command_written 18 (name & flag & at_most 8 name) (λ x. command_.DefineComposite x.0 x.1.0 x.1.1) (λ y. refl) name_flag_names_is.takes
-  , ( tagged command_written 19 (name & name) (λ x. command_.AddSubevent x.0 x.1) (λ y. refl) name_name_is.takes
-  , ( tagged command_written 20 (name & name) (λ x. command_.RemoveSubevent x.0 x.1) (λ y. refl) name_name_is.takes
-  , ( tagged command_written 21 name command_.DeleteEvent (λ y. refl) name_is.takes
-  , ( tagged command_written 22 name command_.TestEvent (λ y. refl) name_is.takes
-  , ( tagged command_written 23 nothing (λ x. command_.RetrieveReattach) (λ y. refl) nothing_is.takes
-  , ( tagged command_written 24 name command_.RetrieveSubevent (λ y. refl) name_is.takes
-  , ( tagged command_written 25 (name & optional name & due) (λ x. command_.DefineTimer x.0 x.1.0 x.1.1) (λ y. refl) name_option_due_is.takes
-  , ( tagged command_written 26 (name & acquired) (λ x. command_.ForceTimer x.0 x.1) (λ y. refl) name_acquired_is.takes
-  , ( tagged command_written 27 name command_.CheckTimer (λ y. refl) name_is.takes
-  , ( tagged command_written 28 name command_.DeleteTimer (λ y. refl) name_is.takes
-  , ( tagged command_written 29 flag command_.Return (λ y. refl) flag_is.takes
-  , ( tagged command_written 30 code command_.Abend (λ y. refl) code_is.takes
-  , ( tagged command_written 31 nothing (λ x. command_.Rollback) (λ y. refl) nothing_is.takes
-  , tt ) ) ) ) ) ) ) ) ) ) ) ) ) ) ) ) ) ) ) ) ) ) ) ) ) ) ) ) ) ) ) )
+command_takes = choice_takes command_written command_readers (
+  never_reads command_written 0,
+  (
+    tagged command_written 1 (transid & program) (λ x. command_.DefineProcess x.0 x.1) (λ y. refl) transid_program_is.takes,
+    (
+      tagged command_written 2 nothing (λ x. command_.AcquireProcess) (λ y. refl) nothing_is.takes,
+      (
+        tagged command_written 3 path command_.AcquireActivity (λ y. refl) path_is.takes,
+        (
+          tagged command_written 4 nothing (λ x. command_.PurgeProcess) (λ y. refl) nothing_is.takes,
+          (
+            tagged command_written 5 (name & optional name & transid & program) (λ x. command_.DefineActivity x.0 x.1.0 x.1.1.0 x.1.1.1) (λ y. refl) name_option_transid_program_is.takes,
+            (
+              tagged command_written 6 name command_.DeleteActivity (λ y. refl) name_is.takes,
+              (
+                tagged command_written 7 (target & flag & optional name) (λ x. command_.Run x.0 x.1.0 x.1.1) (λ y. refl) target_flag_option_is.takes,
+                (
+                  tagged command_written 8 (target & optional name) (λ x. command_.Link x.0 x.1) (λ y. refl) target_option_is.takes,
+                  (
+                    tagged command_written 9 target command_.Check (λ y. refl) target_is.takes,
+                    (
+                      tagged command_written 10 target command_.Cancel (λ y. refl) target_is.takes,
+                      (
+                        tagged command_written 11 target command_.Reset (λ y. refl) target_is.takes,
+                        (
+                          tagged command_written 12 target command_.Suspend (λ y. refl) target_is.takes,
+                          (
+                            tagged command_written 13 target command_.Resume (λ y. refl) target_is.takes,
+                            (
+                              tagged command_written 14 (name & spot & string) (λ x. command_.PutContainer x.0 x.1.0 x.1.1) (λ y. refl) name_spot_string_is.takes,
+                              (
+                                tagged command_written 15 (name & spot) (λ x. command_.GetContainer x.0 x.1) (λ y. refl) name_spot_is.takes,
+                                (
+                                  tagged command_written 16 (name & spot) (λ x. command_.DeleteContainer x.0 x.1) (λ y. refl) name_spot_is.takes,
+                                  (
+                                    tagged command_written 17 name command_.DefineInput (λ y. refl) name_is.takes,
+                                    (
+                                      tagged command_written 18 (name & flag & at_most 8 name) (λ x. command_.DefineComposite x.0 x.1.0 x.1.1) (λ y. refl) name_flag_names_is.takes,
+                                      (
+                                        tagged command_written 19 (name & name) (λ x. command_.AddSubevent x.0 x.1) (λ y. refl) name_name_is.takes,
+                                        (
+                                          tagged command_written 20 (name & name) (λ x. command_.RemoveSubevent x.0 x.1) (λ y. refl) name_name_is.takes,
+                                          (
+                                            tagged command_written 21 name command_.DeleteEvent (λ y. refl) name_is.takes,
+                                            (
+                                              tagged command_written 22 name command_.TestEvent (λ y. refl) name_is.takes,
+                                              (
+                                                tagged command_written 23 nothing (λ x. command_.RetrieveReattach) (λ y. refl) nothing_is.takes,
+                                                (
+                                                  tagged command_written 24 name command_.RetrieveSubevent (λ y. refl) name_is.takes,
+                                                  (
+                                                    tagged command_written 25 (name & optional name & due) (λ x. command_.DefineTimer x.0 x.1.0 x.1.1) (λ y. refl) name_option_due_is.takes,
+                                                    (
+                                                      tagged command_written 26 (name & acquired) (λ x. command_.ForceTimer x.0 x.1) (λ y. refl) name_acquired_is.takes,
+                                                      (
+                                                        tagged command_written 27 name command_.CheckTimer (λ y. refl) name_is.takes,
+                                                        (
+                                                          tagged command_written 28 name command_.DeleteTimer (λ y. refl) name_is.takes,
+                                                          (
+                                                            tagged command_written 29 flag command_.Return (λ y. refl) flag_is.takes,
+                                                            (
+                                                              tagged command_written 30 code command_.Abend (λ y. refl) code_is.takes,
+                                                              (
+                                                                tagged command_written 31 nothing (λ x. command_.Rollback) (λ y. refl) nothing_is.takes,
+                                                                tt,
+                                                              ),
+                                                            ),
+                                                          ),
+                                                        ),
+                                                      ),
+                                                    ),
+                                                  ),
+                                                ),
+                                              ),
+                                            ),
+                                          ),
+                                        ),
+                                      ),
+                                    ),
+                                  ),
+                                ),
+                              ),
+                            ),
+                          ),
+                        ),
+                      ),
+                    ),
+                  ),
+                ),
+              ),
+            ),
+          ),
+        ),
+      ),
+    ),
+  ),
+)
 
 pub command_is : IsFormat command
 command_is = record { again = command_again; takes = command_takes }

@@ -3,6 +3,7 @@ pub mod Choices
 pub mod Combinators
 pub mod CommandFormats
 pub mod Decoded
+pub mod Examples
 pub mod FieldFormats
 pub mod Loops
 pub mod OneForm

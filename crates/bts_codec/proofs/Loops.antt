@@ -28,7 +28,7 @@ module _ {A : Type 0} (read : Reader A) where
   goes_on front count turn bytes after x total h e so_far =
       let k : count - turn ≡ suc (count - (turn + 1)) = omega arith in
       let one : with_front front (so_many_at read (count - turn) bytes) ≡ with_front (front ++ x ∷ []) (so_many_at read (count - (turn + 1)) after) =
-          rw (k, one_read (count - (turn + 1)) bytes after x e) (regroup front x (so_many_at read (count - (turn + 1)) after)) in
+      rw (k, one_read (count - (turn + 1)) bytes after x e) (regroup front x (so_many_at read (count - (turn + 1)) after)) in
       sym one ∙ so_far
 
   pub ends : (e : DecodeError) (front : List A) (count turn : ℕ) (bytes : Bytes) (total : Option (List A × Bytes)) → turn < count → Fails e (read bytes)

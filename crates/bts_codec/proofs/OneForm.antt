@@ -44,9 +44,9 @@ again (suc most) n rest fits h =
     elim (cases_lt n 128) as (λ c. number_at (suc (suc most)) (number_bytes (suc (suc most)) n ++ rest) ≡ Some (n, rest)) [
       | inl small ↦ rw (small_bytes (suc most) n small, small_at (suc most) n rest small) refl
       | inr great ↦
-        let below : n / 128 < 128 ^ suc most = omega arith in
-        let whole : 128 * (n / 128) + (128 + n % 128 - 128) ≡ n = omega arith in
-        rw (great_bytes (suc most) n great, great_at (suc most) (128 + n % 128) (number_bytes (suc most) (n / 128) ++ rest) (omega arith), again most (n / 128) rest (omega arith) below, behind_some (128 + n % 128) (n / 128) rest (omega arith) (omega arith) (omega arith), whole) refl
+          let below : n / 128 < 128 ^ suc most = omega arith in
+          let whole : 128 * (n / 128) + (128 + n % 128 - 128) ≡ n = omega arith in
+          rw (great_bytes (suc most) n great, great_at (suc most) (128 + n % 128) (number_bytes (suc most) (n / 128) ++ rest) (omega arith), again most (n / 128) rest (omega arith) below, behind_some (128 + n % 128) (n / 128) rest (omega arith) (omega arith) (omega arith), whole) refl
     ]
 
 -- what stands behind a byte that another follows
@@ -84,20 +84,20 @@ takes (suc most) [] rest n e = absurd (cc e)
 takes (suc most) (b ∷ bytes) rest n e =
     elim (cases_lt b 128) as (λ c. (b ∷ bytes ≡ number_bytes (suc most) n ++ rest) × (n < 2 ^ 64)) [
       | inl small ↦
-        let here : Some (b, bytes) ≡ Some (n, rest) = sym (small_at most b bytes small) ∙ e in
-        let byte : b ≡ n = first_is b n bytes rest here in
-        let left : bytes ≡ rest = second_is b n bytes rest here in
-        (rw (← byte, small_bytes most b small, left) refl, omega (arith, byte))
+          let here : ◌≡◌ {A = Option (ℕ × Bytes)} (Some (b, bytes)) (Some (n, rest)) = sym (small_at most b bytes small) ∙ e in
+          let byte : b ≡ n = first_is b n bytes rest here in
+          let left : bytes ≡ rest = second_is b n bytes rest here in
+          (rw (← byte, small_bytes most b small, left) refl, omega (arith, byte))
       | inr great ↦
-        let low : Low b (number_at most bytes) n rest = low_of b (number_at most bytes) n rest (sym (great_at most b bytes great) ∙ e) in
-        let whole : n ≡ 128 * low.high + (b - 128) = low.whole in
-        let below : low.high ≤ 2 ^ 57 - 1 = low.below in
-        let some : 1 ≤ low.high = low.some in
-        let byte : b < 256 = low.byte in
-        let behind : bytes ≡ number_bytes most low.high ++ rest = (takes most bytes rest low.high low.is).0 in
-        let first : 128 + n % 128 ≡ b = omega arith in
-        let second : n / 128 ≡ low.high = omega arith in
-        (rw (great_bytes most n (omega arith), first, second) (ap (λ (t : Bytes). b ∷ t) behind), omega arith)
+          let low : Low b (number_at most bytes) n rest = low_of b (number_at most bytes) n rest (sym (great_at most b bytes great) ∙ e) in
+          let whole : n ≡ 128 * low.high + (b - 128) = low.whole in
+          let below : low.high ≤ 2 ^ 57 - 1 = low.below in
+          let some : 1 ≤ low.high = low.some in
+          let byte : b < 256 = low.byte in
+          let behind : bytes ≡ number_bytes most low.high ++ rest = (takes most bytes rest low.high low.is).0 in
+          let first : 128 + n % 128 ≡ b = omega arith in
+          let second : n / 128 ≡ low.high = omega arith in
+          (rw (great_bytes most n (omega arith), first, second) (ap (λ (t : Bytes). b ∷ t) behind), omega arith)
     ]
 
 pub number_is : IsFormat number

@@ -38,11 +38,16 @@ leaving_again leaving_.Complete rest fits = refl
 leaving_again (leaving_.Abended c) rest fits = rw (code_is.again c rest fits) refl
 
 leaving_takes : TakesSpelling leaving
-leaving_takes = choice_takes leaving_written leaving_readers
-  ( tagged leaving_written 0 nothing (λ x. leaving_.Dormant) (λ y. refl) nothing_is.takes
-  , ( tagged leaving_written 1 nothing (λ x. leaving_.Complete) (λ y. refl) nothing_is.takes
-  , ( tagged leaving_written 2 code leaving_.Abended (λ y. refl) code_is.takes
-  , tt ) ) )
+leaving_takes = choice_takes leaving_written leaving_readers (
+  tagged leaving_written 0 nothing (λ x. leaving_.Dormant) (λ y. refl) nothing_is.takes,
+  (
+    tagged leaving_written 1 nothing (λ x. leaving_.Complete) (λ y. refl) nothing_is.takes,
+    (
+      tagged leaving_written 2 code leaving_.Abended (λ y. refl) code_is.takes,
+      tt,
+    ),
+  ),
+)
 
 leaving_is : IsFormat leaving
 leaving_is = record { again = leaving_again; takes = leaving_takes }
@@ -68,17 +73,34 @@ value_again (value_.Ran b) rest fits = rw (flag_is.again b rest fits) refl
 value_again (value_.Left l) rest fits = rw (leaving_is.again l rest fits) refl
 
 value_takes : TakesSpelling value
-value_takes = choice_takes value_written value_readers
-  ( tagged value_written 0 nothing (λ x. value_.Nothing) (λ y. refl) nothing_is.takes
-  , ( tagged value_written 1 string value_.Bytes (λ y. refl) string_is.takes
-  , ( tagged value_written 2 path value_.Id (λ y. refl) path_is.takes
-  , ( tagged value_written 3 (event_name & kind) (λ x. value_.Event x.0 x.1) (λ y. refl) event_is.takes
-  , ( tagged value_written 4 flag value_.Fired (λ y. refl) flag_is.takes
-  , ( tagged value_written 5 (mode & status & flag & code_or_none) (λ x. value_.Activity x.0 x.1.0 x.1.1.0 x.1.1.1) (λ y. refl) activity_is.takes
-  , ( tagged value_written 6 timer_status value_.Timer (λ y. refl) timer_status_is.takes
-  , ( tagged value_written 7 flag value_.Ran (λ y. refl) flag_is.takes
-  , ( tagged value_written 8 leaving value_.Left (λ y. refl) leaving_is.takes
-  , tt ) ) ) ) ) ) ) ) )
+value_takes = choice_takes value_written value_readers (
+  tagged value_written 0 nothing (λ x. value_.Nothing) (λ y. refl) nothing_is.takes,
+  (
+    tagged value_written 1 string value_.Bytes (λ y. refl) string_is.takes,
+    (
+      tagged value_written 2 path value_.Id (λ y. refl) path_is.takes,
+      (
+        tagged value_written 3 (event_name & kind) (λ x. value_.Event x.0 x.1) (λ y. refl) event_is.takes,
+        (
+          tagged value_written 4 flag value_.Fired (λ y. refl) flag_is.takes,
+          (
+            tagged value_written 5 (mode & status & flag & code_or_none) (λ x. value_.Activity x.0 x.1.0 x.1.1.0 x.1.1.1) (λ y. refl) activity_is.takes,
+            (
+              tagged value_written 6 timer_status value_.Timer (λ y. refl) timer_status_is.takes,
+              (
+                tagged value_written 7 flag value_.Ran (λ y. refl) flag_is.takes,
+                (
+                  tagged value_written 8 leaving value_.Left (λ y. refl) leaving_is.takes,
+                  tt,
+                ),
+              ),
+            ),
+          ),
+        ),
+      ),
+    ),
+  ),
+)
 
 value_is : IsFormat value
 value_is = record { again = value_again; takes = value_takes }

@@ -37,11 +37,16 @@ end_again end_.Rollback rest fits = absurd (cc fits)
 end_again (end_.Abend c) rest fits = rw (code_is.again c rest fits) refl
 
 end_takes : TakesSpelling end
-end_takes = choice_takes end_written end_readers
-  ( never_reads end_written 0
-  , ( tagged end_written 1 nothing (λ x. end_.Commit) (λ y. refl) nothing_is.takes
-  , ( tagged end_written 2 code end_.Abend (λ y. refl) code_is.takes
-  , tt ) ) )
+end_takes = choice_takes end_written end_readers (
+  never_reads end_written 0,
+  (
+    tagged end_written 1 nothing (λ x. end_.Commit) (λ y. refl) nothing_is.takes,
+    (
+      tagged end_written 2 code end_.Abend (λ y. refl) code_is.takes,
+      tt,
+    ),
+  ),
+)
 
 end_is : IsFormat end
 end_is = record { again = end_again; takes = end_takes }
@@ -98,13 +103,22 @@ unit_again : ReadsAgain unit
 unit_again e rest fits = unit_made e.unit e.moment e.end e.calls e.rows e.seq rest fits
 
 unit_takes : TakesSpelling unit
-unit_takes = choice_takes unit_written unit_readers
-  ( never_reads unit_written 0
-  , ( spelled_reads unit_written 1 (parts (half 1)) (ended_with (λ k n. unit_.Request n k)) (λ y. record { bytes = refl; fits = λ h. and_both _ _ h refl }) request_is.takes
-  , ( spelled_reads unit_written 2 (parts path) (ended_with unit_.Activation) (λ y. record { bytes = refl; fits = λ h. and_both _ _ h refl }) activation_is.takes
-  , ( spelled_reads unit_written 3 (quiet_parts path) (ended_with unit_.Notice) (λ y. record { bytes = refl; fits = λ h. and_both _ _ h refl }) notice_is.takes
-  , ( spelled_reads unit_written 4 (quiet_parts (path & name)) (ended_with (λ k x. unit_.Expiry k x.0 x.1)) (λ y. record { bytes = refl; fits = λ h. and_both _ _ h refl }) expiry_is.takes
-  , tt ) ) ) ) )
+unit_takes = choice_takes unit_written unit_readers (
+  never_reads unit_written 0,
+  (
+    spelled_reads unit_written 1 (parts (half 1)) (ended_with (λ k n. unit_.Request n k)) (λ y. record { bytes = refl; fits = λ h. and_both _ _ h refl }) request_is.takes,
+    (
+      spelled_reads unit_written 2 (parts path) (ended_with unit_.Activation) (λ y. record { bytes = refl; fits = λ h. and_both _ _ h refl }) activation_is.takes,
+      (
+        spelled_reads unit_written 3 (quiet_parts path) (ended_with unit_.Notice) (λ y. record { bytes = refl; fits = λ h. and_both _ _ h refl }) notice_is.takes,
+        (
+          spelled_reads unit_written 4 (quiet_parts (path & name)) (ended_with (λ k x. unit_.Expiry k x.0 x.1)) (λ y. record { bytes = refl; fits = λ h. and_both _ _ h refl }) expiry_is.takes,
+          tt,
+        ),
+      ),
+    ),
+  ),
+)
 
 pub unit_is : IsFormat unit
 unit_is = record { again = unit_again; takes = unit_takes }

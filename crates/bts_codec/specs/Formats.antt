@@ -5,7 +5,6 @@ use Rattle.bts_names.specs.Names.{Bytes}
 use Rattle.bts_names.specs.Grammar.{is_between}
 
 infixr 60 ◌&◌
-
 -- a value that stands at the front, and the bytes behind it
 abbrev pub Reader : Type 0 → Type 0
 Reader A = Bytes → Option (A × Bytes)

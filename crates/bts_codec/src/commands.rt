@@ -12,9 +12,7 @@ use crate::arguments::{
 };
 use crate::cursor::Cursor;
 use crate::lists::{add_names, add_path, read_names, read_path};
-use crate::strings::{
-    add_optional_name, add_string, read_blob, read_name, read_optional_name,
-};
+use crate::strings::{add_optional_name, add_string, read_blob, read_name, read_optional_name};
 use crate::words::{add_flag, read_flag};
 use bts_command::Command;
 use bts_names::{Blob, NoMemory};
@@ -34,14 +32,23 @@ pub fn add_command(out: &mut Blob, command: &Command) -> Result<(), NoMemory>
         Command::AcquireProcess => Ok(()),
         Command::AcquireActivity { path } => add_path(out, path),
         Command::PurgeProcess => Ok(()),
-        Command::DefineActivity { activity, event, transid, program } => {
+        Command::DefineActivity {
+            activity,
+            event,
+            transid,
+            program,
+        } => {
             add_string(out, activity.as_bytes())?;
             add_optional_name(out, event)?;
             add_string(out, transid.as_bytes())?;
             add_string(out, program.as_bytes())
         }
         Command::DeleteActivity { activity } => add_string(out, activity.as_bytes()),
-        Command::Run { target, synchronous, input } => {
+        Command::Run {
+            target,
+            synchronous,
+            input,
+        } => {
             add_target(out, target)?;
             add_flag(out, *synchronous)?;
             add_optional_name(out, input)
@@ -55,7 +62,11 @@ pub fn add_command(out: &mut Blob, command: &Command) -> Result<(), NoMemory>
         Command::Reset { target } => add_target(out, target),
         Command::Suspend { target } => add_target(out, target),
         Command::Resume { target } => add_target(out, target),
-        Command::PutContainer { container, spot, from } => {
+        Command::PutContainer {
+            container,
+            spot,
+            from,
+        } => {
             add_string(out, container.as_bytes())?;
             add_spot(out, spot)?;
             add_string(out, from.as_slice())
@@ -125,7 +136,12 @@ fn read_define_activity(bytes: &mut Cursor<'_>) -> Result<Command, DecodeError>
     let event = read_optional_name(bytes)?;
     let transid = read_name(bytes)?;
     let program = read_name(bytes)?;
-    Ok(Command::DefineActivity { activity, event, transid, program })
+    Ok(Command::DefineActivity {
+        activity,
+        event,
+        transid,
+        program,
+    })
 }
 
 fn read_delete_activity(bytes: &mut Cursor<'_>) -> Result<Command, DecodeError>
@@ -141,7 +157,11 @@ fn read_run(bytes: &mut Cursor<'_>) -> Result<Command, DecodeError>
     let target = read_target(bytes)?;
     let synchronous = read_flag(bytes)?;
     let input = read_optional_name(bytes)?;
-    Ok(Command::Run { target, synchronous, input })
+    Ok(Command::Run {
+        target,
+        synchronous,
+        input,
+    })
 }
 
 fn read_link(bytes: &mut Cursor<'_>) -> Result<Command, DecodeError>
@@ -193,7 +213,11 @@ fn read_put_container(alloc: Global, bytes: &mut Cursor<'_>) -> Result<Command, 
     let container = read_name(bytes)?;
     let spot = read_spot(bytes)?;
     let from = read_blob(alloc, bytes)?;
-    Ok(Command::PutContainer { container, spot, from })
+    Ok(Command::PutContainer {
+        container,
+        spot,
+        from,
+    })
 }
 
 fn read_get_container(bytes: &mut Cursor<'_>) -> Result<Command, DecodeError>

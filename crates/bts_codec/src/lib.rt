@@ -17,3 +17,6 @@ mod words;
 
 pub use codec::{decode, encode, no_payload_begins_another, reads_what_is_spelled};
 pub use decode_error::DecodeError;
+
+#[cfg(test)]
+mod tests;

@@ -10,9 +10,7 @@ use crate::DecodeError;
 use crate::cursor::Cursor;
 use crate::lists::{add_path, read_path};
 use crate::numbers::{add_number, read_half};
-use crate::parts::{
-    Back, Front, add_back, add_front, read_back, read_front, read_quiet_back,
-};
+use crate::parts::{Back, Front, add_back, add_front, read_back, read_front, read_quiet_back};
 use crate::strings::{add_string, read_name};
 use bts_command::{Ended, UnitKind};
 use bts_names::{Blob, Key, NoMemory, Path, Rows};

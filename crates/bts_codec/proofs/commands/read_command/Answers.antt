@@ -3,7 +3,7 @@ use Rattle.bts_command.specs.declared.command.Command.TheVariants as command_
 use Rattle.bts_codec.specs.Formats.{reads, optional, ◌&◌}
 use Rattle.bts_codec.specs.Fields.{name, flag}
 use Rattle.bts_codec.specs.Commands.{target, command_readers}
-use Rattle.bts_codec.proofs.Chosen.{chosen_is, unknown_command}
+use Rattle.bts_codec.proofs.Chosen.{chosen_is, unknown_command, Avoids}
 use Rattle.bts_codec.proofs.commands.read_command.Goals as goal
 
 pub returns-in-7 : goal.returns-in-7
@@ -17,4 +17,6 @@ returns-in-8 c =
     rw (chosen_is command_readers c.args.bytes.now c.byte.new.self 8 (reads (target & optional name) (λ x. command_.Link x.0 x.1)) (rw (← c.in-8.is) c.in_ok-byte.ensures) refl) c.read_link.ensures
 
 pub returns-in_default : goal.returns-in_default
-returns-in_default c = unknown_command c.args.bytes.now c.byte.new.self c.in_ok-byte.field-0 c.in_ok-byte.ensures c.in_default.in_default-own.rest
+returns-in_default c =
+    let none : Avoids 31 c.in_ok-byte.field-0 = search in
+    unknown_command c.args.bytes.now c.byte.new.self c.in_ok-byte.field-0 c.in_ok-byte.ensures none

@@ -12,9 +12,10 @@ returns-in_err-step c =
 
 pub loop-turn-preserved : goal.loop-turn-preserved
 loop-turn-preserved c =
-    rw c.in-Some.ensures.1
-      ( omega (arith, length-append c.loop-turn.path (c.in_ok-step.step ∷ []), c.loop-turn.invariant.0)
-      , goes_on (half 1).at c.loop-turn.path c.args.count c.loop-turn.turn c.loop-turn.bytes c.read_half.new.bytes c.in_ok-step.step _ c.loop-turn-test.true c.in_ok-step.ensures c.loop-turn.invariant.1 )
+    rw c.in-Some.ensures.1 (
+      omega (arith, length-append c.loop-turn.path (c.in_ok-step.step ∷ []), c.loop-turn.invariant.0),
+      goes_on (half 1).at c.loop-turn.path c.args.count c.loop-turn.turn c.loop-turn.bytes c.read_half.new.bytes c.in_ok-step.step _ c.loop-turn-test.true c.in_ok-step.ensures c.loop-turn.invariant.1,
+    )
 
 pub returns : goal.returns
 returns c = is_done (half 1).at c.loop-turn.path c.args.count c.loop-turn.turn c.loop-turn.bytes _ c.loop-turn-test.false c.loop-turn.invariant.1
