@@ -26,7 +26,7 @@ appended (e ∷ es) rest n b d = by (same n e.0) refl (appended es rest n b (IsD
         absurd (true≢false (sym met ∙ apart))
     by false h last = ap (λ xs. e ∷ xs) last
 
--- one turn of a loop that puts the containers of a pool one after the other
+-- one turn of a loop that puts containers one after the other
 pub copied-more : (all done more rest : Containers) (n : Name) (b : Bytes) → IsDistinct same (keys_of all) → done ++ more ≡ all → more ≡ (n, b) ∷ rest → put_container n b done ++ rest ≡ all
 copied-more all done more rest n b d e m =
     let whole : done ++ (n, b) ∷ rest ≡ all = sym (ap (λ xs. done ++ xs) m) ∙ e in

@@ -1,6 +1,9 @@
 // Containers by name.
 ghost use Rattle.std.specs.Prelude.{◌≡◌, ◌↔◌, IsTrue, IfOk, OnOk, OnErr, [], length, slice_get};
 ghost use Rattle.std.specs.Option.{option_map};
+ghost use Rattle.std.specs.List.{IsDistinct};
+ghost use Rattle.std.specs.Map.{keys_of};
+ghost use Rattle.bts_names.specs.Names.{same};
 ghost use Rattle.bts_names.specs.Named.{lookup, is_there};
 ghost use Rattle.bts_container.specs.Containers.{IsPool, put_container, delete_container};
 ghost use Rattle.bts_container.specs.Puts.{refusal_of_put, Answers};
@@ -42,6 +45,15 @@ impl ContainerPool {
         ContainerPool {
             map: IndexMap::new(alloc),
         }
+    }
+
+    /// A pool of these containers in this order. They must be what a pool keeps.
+    pub fn from_parts(alloc: Global, containers: Vec<(Name16, Blob)>) -> Result<Self, NoMemory>
+        requires { IsPool containers.items }
+        ensures { IfOk result (λ pool. pool ≡ containers.items) }
+    {
+        let map = map_of(alloc, containers)?;
+        Ok(ContainerPool { map })
     }
 
     /// Puts the bytes under a name: a new name goes last, a present one keeps its place. The bytes are
@@ -109,8 +121,8 @@ impl ContainerPool {
     pub fn copy(&self, alloc: Global) -> Result<ContainerPool, NoMemory>
         ensures { IfOk result (λ copy. copy ≡ self.now) }
     {
-        let map = copy_map(alloc, &self.map)?;
-        Ok(ContainerPool { map })
+        let containers = copies(alloc, &self.map)?;
+        ContainerPool::from_parts(alloc, containers)
     }
 
     /// Whether both have the same containers in the same order. The time grows with their bytes.
@@ -140,13 +152,30 @@ fn refuses_put(map: &IndexMap<Name16, Blob>, name: &Name16, bytes: &[u8]) -> Opt
     None
 }
 
-fn copy_map(alloc: Global, map: &IndexMap<Name16, Blob>) -> Result<IndexMap<Name16, Blob>, NoMemory>
-    ensures { IfOk result (λ copy. copy.entries ≡ map.now.entries) }
+fn copies(alloc: Global, map: &IndexMap<Name16, Blob>) -> Result<Vec<(Name16, Blob)>, NoMemory>
+    ensures { IfOk result (λ copies. copies.items ≡ map.now.entries) }
 {
-    let mut copy = IndexMap::new(alloc);
+    let mut copies = Vec::new(alloc);
     for (name, blob) in map {
         let bytes = Blob::copy_of(alloc, blob.as_slice())?;
-        copy.insert(*name, bytes)?;
+        copies.push((*name, bytes))?;
     }
-    Ok(copy)
+    Ok(copies)
+}
+
+fn map_of(
+    alloc: Global,
+    containers: Vec<(Name16, Blob)>,
+) -> Result<IndexMap<Name16, Blob>, NoMemory>
+    requires { IsDistinct same (keys_of containers.items) }
+    ensures { IfOk result (λ map. map.entries ≡ containers.items) }
+{
+    let mut map = IndexMap::new(alloc);
+    let mut rest = containers.into_iter();
+    while let Some(container) = rest.next() {
+        if map.insert(container.0, container.1).is_err() {
+            return Err(NoMemory);
+        }
+    }
+    Ok(map)
 }

@@ -14,5 +14,5 @@ pub mod OneTurns
 pub mod Settling
 pub mod Accounts
 pub mod Falls
-pub mod Made
 pub mod Examples
+pub mod Alike

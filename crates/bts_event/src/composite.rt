@@ -1,9 +1,11 @@
 // Events that are computed from others.
 ghost use Rattle.std.specs.Prelude.{◌≡◌, ◌∷◌, ◌++◌, [], OnOk, OnErr, IfOk};
+ghost use Rattle.std.specs.Cmp.Rules.{comparing};
+ghost use Rattle.bts_event.specs.Composites.{same_composite};
 ghost use Rattle.bts_event.specs.Events as events;
 
 use bts_names::{Name16, NoMemory};
-use std::alloc::Global;
+use std::alloc::{AllocError, Global};
 use std::marker::Model;
 
 /// An event that is computed from its sub-events: of all it holds where it has some and each is fired, of
@@ -22,6 +24,32 @@ impl Model for Composite {
     ghost Value = { Composite };
 
     ghost view = { λ c. record { all = c.all; subs = c.subs.items; queued = c.queued.items } };
+}
+
+impl Clone for Composite {
+    ghost is_clone = { λ c copy. copy ≡ c };
+
+    fn clone(&self) -> Result<Self, AllocError> {
+        Ok(Composite {
+            all: self.all,
+            subs: self.subs.clone()?,
+            queued: self.queued.clone()?,
+        })
+    }
+}
+
+impl PartialEq for Composite {
+    ghost eq = { same_composite };
+
+    ghost laws = { Prim.search comparing depth 9 };
+
+    fn eq(&self, other: &Self) -> bool {
+        self.all == other.all && self.subs == other.subs && self.queued == other.queued
+    }
+}
+
+impl Eq for Composite {
+    ghost laws = { Prim.search comparing depth 9 };
 }
 
 impl Composite {

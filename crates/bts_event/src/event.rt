@@ -4,6 +4,7 @@ ghost use Rattle.bts_event.specs.Events as events;
 
 use crate::Composite;
 use bts_names::{EventKind, Name16, NoMemory};
+use std::alloc::AllocError;
 
 /// What fires an atomic event.
 #[derive(Clone, Copy, Debug, PartialEq, Eq)]
@@ -42,10 +43,21 @@ pub struct Atomic {
 }
 
 /// An event of a pool.
-#[derive(Debug, Drop)]
+#[derive(Debug, PartialEq, Eq, Drop)]
 pub enum Event {
     Atomic(Atomic),
     Composite(Composite),
+}
+
+impl Clone for Event {
+    ghost is_clone = { λ e copy. copy ≡ e };
+
+    fn clone(&self) -> Result<Self, AllocError> {
+        match self {
+            Event::Atomic(a) => Ok(Event::Atomic(*a)),
+            Event::Composite(c) => Ok(Event::Composite(c.clone()?)),
+        }
+    }
 }
 
 impl Event {

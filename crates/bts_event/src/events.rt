@@ -1,35 +1,13 @@
 // The events of a pool: what is read of them, and how one of them changes.
-ghost use Rattle.std.specs.Prelude.{◌≡◌, OnOk, OnErr, IfOk};
+ghost use Rattle.std.specs.Prelude.{◌≡◌, ◌↔◌, IsTrue, OnOk, OnErr};
 ghost use Rattle.std.specs.List.{list_all, list_any};
-ghost use Rattle.std.specs.List.Sorted.{IsStrictlySortedBy};
-ghost use Rattle.std.specs.Map.{keys_of};
-ghost use Rattle.std.specs.Ordering.{nat_cmp};
-ghost use Rattle.std.specs.Cmp.Lexicographic.{slice_cmp};
 ghost use Rattle.bts_names.specs.Named.{lookup};
 ghost use Rattle.bts_event.specs.Events as events;
 ghost use Rattle.bts_event.specs.Pool as pool;
 
 use crate::{Composite, Event};
 use bts_names::{EventKind, Name16, NoMemory, Reason};
-use std::alloc::Global;
 use std::collections::BTreeMap;
-
-/// The map of events that stand in the order of their names.
-pub(crate) fn map_of(
-    alloc: Global,
-    mut events: Vec<(Name16, Event)>,
-) -> Result<BTreeMap<Name16, Event>, NoMemory>
-    requires { IsStrictlySortedBy (slice_cmp nat_cmp) (keys_of events.items) }
-    ensures { IfOk result (λ map. map.entries ≡ events.items) }
-{
-    let mut map = BTreeMap::new(alloc);
-    while let Some(entry) = events.pop() {
-        if map.insert(entry.0, entry.1).is_err() {
-            return Err(NoMemory);
-        }
-    }
-    Ok(map)
-}
 
 /// The composite that has a sub-event.
 pub(crate) fn holder(map: &BTreeMap<Name16, Event>, sub: &Name16) -> Option<Name16>
@@ -126,6 +104,12 @@ pub(crate) fn held_at(map: &BTreeMap<Name16, Event>, name: &Name16) -> bool
         Some(Event::Atomic(a)) => a.fired,
         Some(Event::Composite(c)) => holds(map, c),
     }
+}
+
+pub(crate) fn same_events(a: &BTreeMap<Name16, Event>, b: &BTreeMap<Name16, Event>) -> bool
+    ensures { IsTrue result ↔ (a.now.entries ≡ b.now.entries) }
+{
+    *a == *b
 }
 
 /// What is first in a composite's queue.

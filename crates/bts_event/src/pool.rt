@@ -1,5 +1,5 @@
 // Event pools.
-ghost use Rattle.std.specs.Prelude.{◌≡◌, ◌<◌, ◌≤◌, ◌-◌, ◌^◌, length, IfOk, OnOk, OnErr, true, false};
+ghost use Rattle.std.specs.Prelude.{◌≡◌, ◌↔◌, IsTrue, ◌<◌, ◌≤◌, ◌-◌, ◌^◌, length, IfOk, OnOk, OnErr, true, false};
 ghost use Rattle.bts_names.specs.Names.{same, initial_name};
 ghost use Rattle.bts_names.specs.Named.{lookup, is_there};
 ghost use Rattle.bts_event.specs.Events as events;
@@ -9,15 +9,15 @@ ghost use Rattle.bts_event.specs.Sound.{IsSoundPool};
 
 use crate::events::{
     completion_of, drop_first, event_of, forget_queued, forget_sub, has_completion, held_at,
-    holder, holds, kind_of_entry, map_of, next_subevent, push_queued, push_sub, set_bit,
+    holder, holds, kind_of_entry, next_subevent, push_queued, push_sub, same_events, set_bit,
 };
-use crate::queue::{drop_entries, enter};
+use crate::queue::{drop_entries, enter, same_entries};
 use crate::refusals::{
     refuses_add, refuses_composite, refuses_define, refuses_delete, refuses_fire, refuses_leave,
 };
 use crate::turning::{erase, settle};
 use crate::{Atomic, Composite, Entry, Event, PoolError, Trigger};
-use bts_names::{EventKind, Name16, NoMemory, Reason};
+use bts_names::{EventKind, Name16, NoMemory, Reason, map_of};
 use std::alloc::Global;
 use std::collections::{BTreeMap, VecDeque};
 use std::marker::Model;
@@ -85,6 +85,28 @@ impl EventPool {
         ensures { result.now.items ≡ self.now.entries }
     {
         &self.queue
+    }
+
+    /// A pool of the same events and entries.
+    pub fn copy(&self) -> Result<EventPool, NoMemory>
+        ensures { IfOk result (λ copy. copy ≡ self.now) }
+    {
+        let events = self.events.clone()?;
+        let queue = self.queue.clone()?;
+        Ok(EventPool {
+            events,
+            queue,
+            last: self.last,
+        })
+    }
+
+    /// Whether both have the same events, entries and last number. The time grows with their number.
+    pub fn same(&self, other: &EventPool) -> bool
+        ensures { IsTrue result ↔ (self.now ≡ other.now) }
+    {
+        self.last == other.last
+            && same_entries(&self.queue, &other.queue)
+            && same_events(&self.events, &other.events)
     }
 
     /// What every pool keeps, for the proofs of callers.

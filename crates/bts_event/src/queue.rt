@@ -1,5 +1,5 @@
 // The queue of entries.
-ghost use Rattle.std.specs.Prelude.{◌≡◌, ◌<◌, ◌≤◌, ◌+◌, ◌-◌, ◌^◌, ◌∷◌, ◌++◌, []};
+ghost use Rattle.std.specs.Prelude.{◌≡◌, ◌↔◌, IsTrue, ◌<◌, ◌≤◌, ◌+◌, ◌-◌, ◌^◌, ◌∷◌, ◌++◌, []};
 ghost use Rattle.std.specs.VecDeque.{deque_len, deque_capacity};
 ghost use Rattle.bts_event.specs.Pool as pool;
 
@@ -25,6 +25,12 @@ pub(crate) fn enter(queue: &mut VecDeque<Entry>, last: &mut u64, name: Name16)
     if queue.push_back(Entry { name, number }).is_ok() {
         *last = number;
     }
+}
+
+pub(crate) fn same_entries(a: &VecDeque<Entry>, b: &VecDeque<Entry>) -> bool
+    ensures { IsTrue result ↔ (a.now.items ≡ b.now.items) }
+{
+    *a == *b
 }
 
 /// Takes the entries of a name away. The room stays.

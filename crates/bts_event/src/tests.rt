@@ -170,6 +170,16 @@ fn starts(pool: &mut EventPool) -> bool {
     started && initial && pool.count() == 0
 }
 
+/// A copy is the same until the pool changes.
+fn copies(pool: &mut EventPool) -> bool {
+    let Ok(copy) = pool.copy() else {
+        return false;
+    };
+    let same = pool.same(&copy);
+    let fired = pool.last_number() < 1000 && pool.fire(named("CHILD")).is_ok();
+    same && fired && !pool.same(&copy)
+}
+
 fn parts(alloc: Global) -> Result<bool, NoMemory> {
     let mut subs = Vec::new(alloc);
     subs.push(named("CHILD"))?;
@@ -183,6 +193,15 @@ fn comes_of_parts(alloc: Global) -> bool {
         Ok(pool) => pool.last_number() == 7 && pool.count() == 0,
         Err(_) => false,
     }
+}
+
+#[test]
+fn a_copy_is_the_same(rt: HostRuntime) -> Result<(), Fail> {
+    let alloc = rt.alloc();
+    let mut pool = EventPool::new(alloc);
+    assert!(rt; both(alloc, &mut pool));
+    assert!(rt; copies(&mut pool));
+    Ok(())
 }
 
 #[test]

@@ -3,6 +3,7 @@
 
 mod comparisons;
 mod key;
+mod maps;
 mod memory;
 mod moment;
 mod name;
@@ -16,6 +17,7 @@ pub use comparisons::{
     keys_compare_by_type_and_name, names_compare_by_bytes, paths_compare_by_numbers,
 };
 pub use key::Key;
+pub use maps::map_of;
 pub use memory::NoMemory;
 pub use moment::Moment;
 pub use name::{Abcode, BadName, Name, Name16, ProcName, ProcType, ProgName, Transid, kind};

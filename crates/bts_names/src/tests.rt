@@ -2,7 +2,7 @@
 // where there is memory.
 use crate::{
     Abcode, Blob, EventKind, Mode, Moment, Name16, Path, ProcName, ProcType, ProgName, Reason,
-    Resp, Status, TimerStatus, Transid,
+    Resp, Status, TimerStatus, Transid, map_of,
 };
 use std::test::Fail;
 
@@ -111,5 +111,17 @@ fn paths_moments_and_words(rt: HostRuntime) -> Result<(), Fail> {
     blob.extend(b"cd".as_slice())?;
     blob.push(b'e')?;
     assert_eq!(rt; blob.as_slice(), b"abcde".as_slice());
+    Ok(())
+}
+
+#[test]
+fn a_map_is_made_of_its_entries(rt: HostRuntime) -> Result<(), Fail> {
+    let alloc = rt.alloc();
+    let mut entries = Vec::new(alloc);
+    entries.push((1u32, b'a'))?;
+    entries.push((2u32, b'b'))?;
+    let map = map_of(alloc, entries)?;
+    assert_eq!(rt; map.len(), 2);
+    assert_eq!(rt; map.get(&2).copied(), Some(b'b'));
     Ok(())
 }

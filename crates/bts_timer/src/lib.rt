@@ -1,7 +1,7 @@
 //! Timers: when each is due, and what has become of it.
 //!
-//! A pool keeps its timers in order of their names. Only `define` and `copy` take memory: the other calls
-//! write the status of a timer in its place, or give its memory back.
+//! A pool keeps its timers in order of their names. Only `from_parts`, `define` and `copy` take memory: the
+//! other calls write the status of a timer in its place, or give its memory back.
 #![tactic(auto)]
 
 mod pool;

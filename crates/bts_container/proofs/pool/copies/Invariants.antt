@@ -1,8 +1,8 @@
 use Rattle.std.proofs.Common.{◌≡◌, ◌++◌}
-use Rattle.bts_container.proofs.pool.copy_map.Given as goal
+use Rattle.bts_container.proofs.pool.copies.Given as goal
 
 abbrev pub invariant-loop-name : goal.invariant-loop-name
 invariant-loop-name l =
     (goal.iterator-loop-name).can_next l.name-iterator ×
     (goal.iterator-loop-name).is_finite l.name-iterator ×
-    (l.copy.entries ++ l.name-iterator ≡ l.map.entries)
+    (l.copies.items ++ l.name-iterator ≡ l.map.entries)
