@@ -1,7 +1,7 @@
 -- The laws of choices: a byte that says which, and its parts.
-use Rattle.std.proofs.Common.{◌≡◌, ℕ, zero, suc, ◌+◌, ◌-◌, ◌≤◌, Bool, true, false, List, [], ◌∷◌, ◌++◌, Option, Some, None, option_map, IsTrue, refl, sym, ◌∙◌, ap, subst, arith, slice_get}
+use Rattle.std.proofs.Common.{◌≡◌, ℕ, zero, suc, ◌+◌, List, [], ◌∷◌, ◌++◌, Option, Some, None, option_map, IsTrue, refl, sym, ◌∙◌, ap, subst, arith, slice_get}
 use Rattle.bts_names.specs.Names.{Bytes}
-use Rattle.bts_codec.specs.Formats.{Format, Reader, Written, written, numbered, reads, never, nothing, seen, chosen_at, choice, word_at, word, optional, optional_written}
+use Rattle.bts_codec.specs.Formats.{Format, Reader, Written, written, reads, never, nothing, choice, word, optional, optional_written}
 use Rattle.bts_codec.specs.Laws.{ReadsAgain, TakesSpelling, IsFormat}
 use Rattle.bts_codec.proofs.Options.{some_is, first_is, second_is}
 use Rattle.bts_codec.proofs.Combinators.{Seen, seen_of, nothing_is}

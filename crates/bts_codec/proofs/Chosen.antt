@@ -1,5 +1,5 @@
 -- What a first byte chooses.
-use Rattle.std.proofs.Common.{◌≡◌, ℕ, zero, suc, ◌≤◌, List, [], ◌∷◌, length, Option, Some, None, refl, sym, ◌∙◌, ap, subst, arith, inl, inr, ◌⊎◌, slice_get}
+use Rattle.std.proofs.Common.{◌≡◌, ℕ, zero, suc, ◌≤◌, List, [], ◌∷◌, length, Option, Some, None, refl, ap, subst, arith, inl, inr, ◌⊎◌, slice_get}
 use Rattle.std.proofs.lemmas.Option.{slice_get_past}
 use Rattle.bts_names.specs.Names.{Bytes}
 use Rattle.bts_codec.specs.Formats.{Reader, first_at, chosen_at, never}

@@ -1,14 +1,14 @@
 -- The laws of parts: what is spelled is read, whatever follows, and what is read is spelled so.
-use Rattle.std.proofs.Common.{◌≡◌, ℕ, zero, suc, ◌+◌, ◌-◌, ◌^◌, ◌<◌, ◌≤◌, Bool, true, false, cond, ◌&&◌, List, [], ◌∷◌, ◌++◌, length, take, drop, flat_map, Option, Some, None, IsTrue, refl, sym, ◌∙◌, ap, subst, arith, append_assoc, append-nil, length-append, length-take, lt-ltb, le-ltb, le-leb, ltb-true, ltb-false, leb-true}
-use Rattle.std.specs.Prelude.{nat_lt, nat_le}
+use Rattle.std.proofs.Common.{◌≡◌, ℕ, zero, suc, ◌≤◌, Bool, true, false, cond, ◌&&◌, List, [], ◌∷◌, ◌++◌, length, take, drop, flat_map, Option, Some, None, IsTrue, refl, sym, ◌∙◌, ap, subst, arith, append_assoc, length-append, length-take, le-ltb, ltb-false}
+use Rattle.std.specs.Prelude.{nat_lt}
 use Rattle.std.specs.List.{list_all}
 use Rattle.std.proofs.lemmas.Bool.{and_parts}
 use Rattle.std.proofs.lemmas.List.{take-append-drop}
 use Rattle.std.proofs.Math.Seq.{take-append_seam, drop-append_seam}
 use Rattle.bts_names.specs.Names.{Bytes}
-use Rattle.bts_codec.specs.Formats.{Format, Reader, ◌&◌, only, as_parts, passing, seen, paired, nothing, number, number_from, bytes_behind, string, so_many_at, list_at, at_most}
+use Rattle.bts_codec.specs.Formats.{Format, ◌&◌, only, as_parts, passing, seen, paired, nothing, number, number_from, bytes_behind, string, so_many_at, list_at, at_most}
 use Rattle.bts_codec.specs.Laws.{ReadsAgain, TakesSpelling, IsFormat}
-use Rattle.bts_codec.proofs.Options.{some_is, first_is, second_is}
+use Rattle.bts_codec.proofs.Options.{first_is, second_is}
 use Rattle.bts_codec.proofs.OneForm.{number_is}
 use Rattle.bts_codec.proofs.Loops.{one_read, none_read}
 

@@ -1,16 +1,16 @@
 -- Commands and their arguments are formats.
-use Rattle.std.proofs.Common.{◌≡◌, ℕ, List, [], ◌∷◌, Option, Some, None, IsTrue, refl}
+use Rattle.std.proofs.Common.{Some, None, refl}
 use Rattle.bts_command.specs.declared.command.Target.TheVariants as target_
 use Rattle.bts_command.specs.declared.command.Spot.TheVariants as spot_
 use Rattle.bts_command.specs.declared.command.Due.TheVariants as due_
 use Rattle.bts_command.specs.declared.command.Command.TheVariants as command_
-use Rattle.bts_codec.specs.Formats.{string, nothing, reads, never, at_most, optional, ◌&◌}
-use Rattle.bts_codec.specs.Fields.{name, transid, program, code, half, path, moment, flag}
+use Rattle.bts_codec.specs.Formats.{string, nothing, at_most, optional, ◌&◌}
+use Rattle.bts_codec.specs.Fields.{name, transid, program, code, u32_from, path, moment, flag}
 use Rattle.bts_codec.specs.Commands.{target, target_written, target_readers, spot, spot_written, spot_readers, due, due_written, due_readers, acquired, acquired_written, acquired_readers, command, command_written, command_readers}
 use Rattle.bts_codec.specs.Laws.{ReadsAgain, TakesSpelling, IsFormat}
 use Rattle.bts_codec.proofs.Combinators.{pair_is, nothing_is, string_is, at_most_is}
 use Rattle.bts_codec.proofs.Choices.{choice_takes, never_reads, tagged}
-use Rattle.bts_codec.proofs.FieldFormats.{name_is, optional_name_is, transid_is, program_is, code_is, half_is, path_is, moment_is, flag_is}
+use Rattle.bts_codec.proofs.FieldFormats.{name_is, optional_name_is, transid_is, program_is, code_is, u32_from_is, path_is, moment_is, flag_is}
 
 target_again : ReadsAgain target
 target_again (target_.Activity a) rest fits = rw (name_is.again a rest fits) refl
@@ -64,12 +64,12 @@ spot_is : IsFormat spot
 spot_is = record { again = spot_again; takes = spot_takes }
 
 due_again : ReadsAgain due
-due_again (due_.After n) rest fits = rw ((half_is 0).again n rest fits) refl
+due_again (due_.After n) rest fits = rw ((u32_from_is 0).again n rest fits) refl
 due_again (due_.At m) rest fits = rw (moment_is.again m rest fits) refl
 
 due_takes : TakesSpelling due
 due_takes = choice_takes due_written due_readers (
-  tagged due_written 0 (half 0) due_.After (λ y. refl) (half_is 0).takes,
+  tagged due_written 0 (u32_from 0) due_.After (λ y. refl) (u32_from_is 0).takes,
   (
     tagged due_written 1 moment due_.At (λ y. refl) moment_is.takes,
     tt,

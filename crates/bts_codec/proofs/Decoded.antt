@@ -1,5 +1,5 @@
 -- What an answer says of all units.
-use Rattle.std.proofs.Common.{◌≡◌, Option, Some, None, Result, Ok, Err}
+use Rattle.std.proofs.Common.{Result, Ok, Err}
 use Rattle.std.specs.Prelude.{IfOk}
 use Rattle.bts_names.specs.Names.{Bytes}
 use Rattle.bts_command.specs.declared.ended.Ended.{Ended}

@@ -1,9 +1,8 @@
 -- Payloads, byte for byte.
-use Rattle.std.proofs.Common.{◌≡◌, ℕ, List, [], ◌∷◌, length, Option, Some, None, ◌^◌, ◌-◌, refl}
+use Rattle.std.proofs.Common.{◌≡◌, ℕ, List, [], ◌∷◌, Some, None, ◌^◌, ◌-◌, refl}
 use Rattle.std.specs.Prelude.{map, true, false, codes}
 use Rattle.bts_names.specs.Names.{Bytes}
 use Rattle.bts_names.specs.Grammar.{is_name_byte}
-use Rattle.bts_names.specs.declared.key.Key.{Key}
 use Rattle.bts_names.specs.declared.reply.Resp.TheVariants as resp_
 use Rattle.bts_names.specs.declared.reply.Reason.TheVariants as reason_
 use Rattle.bts_names.specs.declared.reply.Value.{Value}

@@ -1,5 +1,5 @@
 -- Names, paths, moments, flags and words are formats.
-use Rattle.std.proofs.Common.{◌≡◌, ℕ, Bool, true, false, ◌&&◌, List, [], ◌∷◌, Option, Some, None, IsTrue, refl}
+use Rattle.std.proofs.Common.{ℕ, true, false, [], ◌∷◌, Some, refl}
 use Rattle.bts_names.specs.Grammar.{is_name_within, last_second}
 use Rattle.bts_names.specs.Vocabulary.{resps, resp_number, reasons, reason_number, stored_modes, mode_number, statuses, status_number, kinds, kind_number, timer_statuses, timer_number}
 use Rattle.bts_names.specs.declared.reply.Resp.TheVariants as resp_
@@ -8,8 +8,8 @@ use Rattle.bts_names.specs.declared.state.Mode.TheVariants as mode_
 use Rattle.bts_names.specs.declared.state.Status.TheVariants as status_
 use Rattle.bts_names.specs.declared.state.EventKind.TheVariants as kind_
 use Rattle.bts_names.specs.declared.state.TimerStatus.TheVariants as timer_status_
-use Rattle.bts_codec.specs.Formats.{string, number_from, optional, ◌&◌}
-use Rattle.bts_codec.specs.Fields.{name_within, name, transid, program, code, half, path, moment, key, flag, flag_number, resp, reason, mode, status, kind, timer_status}
+use Rattle.bts_codec.specs.Formats.{string, optional, ◌&◌}
+use Rattle.bts_codec.specs.Fields.{name_within, name, transid, program, code, u32_from, path, moment, key, flag, flag_number, resp, reason, mode, status, kind, timer_status}
 use Rattle.bts_codec.specs.Laws.{ReadsAgain, IsFormat}
 use Rattle.bts_codec.proofs.Combinators.{pair_is, only_is, as_parts_is, number_from_is, string_is, at_most_is}
 use Rattle.bts_codec.proofs.Choices.{word_takes, optional_is}
@@ -32,11 +32,11 @@ program_is = name_within_is 8
 pub code_is : IsFormat code
 code_is = name_within_is 4
 
-pub half_is : (low : ℕ) → IsFormat (half low)
-half_is low = number_from_is low 4_294_967_295
+pub u32_from_is : (low : ℕ) → IsFormat (u32_from low)
+u32_from_is low = number_from_is low 4_294_967_295
 
 pub path_is : IsFormat path
-path_is = at_most_is (half 1) 32 (half_is 1)
+path_is = at_most_is (u32_from 1) 32 (u32_from_is 1)
 
 pub moment_is : IsFormat moment
 moment_is = number_from_is 0 last_second

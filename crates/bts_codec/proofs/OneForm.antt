@@ -1,9 +1,8 @@
 -- A number in its one form.
-use Rattle.std.proofs.Common.{◌≡◌, ℕ, zero, suc, ◌+◌, ◌-◌, ◌*◌, ◌/◌, ◌%◌, ◌^◌, ◌<◌, ◌≤◌, ◌⊎◌, Bool, true, false, cond, ◌&&◌, List, [], ◌∷◌, ◌++◌, Option, Some, None, IsTrue, refl, sym, ◌∙◌, ap, inl, inr, subst, arith, lt-ltb, le-ltb, ltb-true, ltb-false, leb-true, le-leb, ne_eqb, append_assoc}
+use Rattle.std.proofs.Common.{◌≡◌, ℕ, zero, suc, ◌+◌, ◌-◌, ◌*◌, ◌/◌, ◌%◌, ◌^◌, ◌<◌, ◌≤◌, Bool, true, false, cond, ◌&&◌, [], ◌∷◌, ◌++◌, Option, Some, None, refl, sym, ◌∙◌, ap, inl, inr, arith, lt-ltb, le-ltb, ltb-true, leb-true, le-leb, append_assoc}
 use Rattle.std.specs.Prelude.{nat_lt, nat_le}
-use Rattle.std.proofs.lemmas.Bool.{cases_lt, and_parts}
+use Rattle.std.proofs.lemmas.Bool.{cases_lt}
 use Rattle.bts_names.specs.Names.{Bytes}
-use Rattle.bts_names.specs.Grammar.{is_between}
 use Rattle.bts_codec.specs.Formats.{number, number_bytes, number_at, behind_low}
 use Rattle.bts_codec.specs.Laws.{IsFormat}
 use Rattle.bts_codec.proofs.Options.{first_is, second_is}

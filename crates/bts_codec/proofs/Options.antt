@@ -1,7 +1,5 @@
 -- Steps that gave something.
-use Rattle.std.proofs.Common.{◌≡◌, Bool, true, false, cond, List, [], ◌∷◌, Option, Some, None, refl, sym, ◌∙◌, ap}
-use Rattle.bts_names.specs.Names.{Bytes}
-use Rattle.bts_codec.specs.Formats.{Reader, seen, passing, paired, all_of}
+use Rattle.std.proofs.Common.{◌≡◌, Option, Some, None, ap}
 
 -- what an option holds
 held : {X : Type 0} → X → Option X → X

@@ -1,10 +1,10 @@
 -- Replies are formats.
-use Rattle.std.proofs.Common.{◌≡◌, ℕ, List, [], ◌∷◌, ◌++◌, ◌&&◌, Option, Some, None, IsTrue, refl}
+use Rattle.std.proofs.Common.{◌≡◌, [], ◌∷◌, Option, Some, None, IsTrue, refl}
 use Rattle.std.proofs.lemmas.Bool.{and_parts}
 use Rattle.bts_names.specs.Names.{Bytes, Name}
 use Rattle.bts_names.specs.declared.reply.Leaving.TheVariants as leaving_
 use Rattle.bts_names.specs.declared.reply.Value.TheVariants as value_
-use Rattle.bts_codec.specs.Formats.{string, nothing, reads, only, as_parts, ◌&◌}
+use Rattle.bts_codec.specs.Formats.{string, nothing, as_parts, ◌&◌}
 use Rattle.bts_codec.specs.Fields.{code, path, flag, resp, reason, mode, status, kind, timer_status}
 use Rattle.bts_codec.specs.Replies.{is_event_name, event_name, code_in, code_bytes, is_code_or_none, code_or_none, leaving, leaving_written, leaving_readers, value, value_written, value_readers, is_reply, any_reply, reply}
 use Rattle.bts_codec.specs.Laws.{ReadsAgain, TakesSpelling, IsFormat}

@@ -1,5 +1,5 @@
 -- Units are formats, and no payload begins another.
-use Rattle.std.proofs.Common.{◌≡◌, ℕ, zero, suc, Bool, true, false, ◌&&◌, List, [], ◌∷◌, ◌++◌, length, Option, Some, None, IsTrue, refl, sym, ◌∙◌, ap, subst, arith, append-nil, eqb-true}
+use Rattle.std.proofs.Common.{◌≡◌, ℕ, List, [], ◌∷◌, ◌++◌, length, Option, Some, None, IsTrue, refl, sym, ◌∙◌, ap, arith, append-nil, eqb-true}
 use Rattle.std.specs.Prelude.{nat_eq}
 use Rattle.std.proofs.lemmas.Bool.{and_parts}
 use Rattle.bts_names.specs.Names.{Bytes}
@@ -11,17 +11,17 @@ use Rattle.bts_command.specs.declared.ended.End.TheVariants as end_
 use Rattle.bts_command.specs.declared.ended.UnitKind.{UnitKind}
 use Rattle.bts_command.specs.declared.ended.UnitKind.TheVariants as unit_
 use Rattle.bts_command.specs.declared.ended.Ended.{Ended}
-use Rattle.bts_codec.specs.Formats.{Format, reads, nothing, only, as_parts, number_from, at_most, all_of, whole_in, ◌&◌}
-use Rattle.bts_codec.specs.Fields.{name, code, path, half, moment, key}
+use Rattle.bts_codec.specs.Formats.{Format, nothing, only, number_from, all_of, whole_in, ◌&◌}
+use Rattle.bts_codec.specs.Fields.{name, code, path, u32_from, moment, key}
 use Rattle.bts_codec.specs.Commands.{command}
 use Rattle.bts_codec.specs.Replies.{reply}
-use Rattle.bts_codec.specs.Units.{call, calls, end, end_written, end_readers, last_unit, front, back, Parts, parts, quiet_parts, parts_of, is_quiet, unit, unit_written, unit_readers, ended_with, is_unit, payload, unit_in}
+use Rattle.bts_codec.specs.Units.{call, calls, end, end_written, end_readers, last_unit, front, back, Parts, parts, quiet_parts, is_quiet, unit, unit_written, unit_readers, ended_with, is_unit, payload, unit_in}
 use Rattle.bts_codec.specs.Answers.{IsPayload}
 use Rattle.bts_codec.specs.Laws.{ReadsAgain, TakesSpelling, IsFormat, NoPrefix}
 use Rattle.bts_codec.proofs.Options.{some_is, first_is, second_is}
 use Rattle.bts_codec.proofs.Combinators.{and_both, pair_is, only_is, as_parts_is, nothing_is, number_from_is, at_most_is}
 use Rattle.bts_codec.proofs.Choices.{choice_takes, never_reads, tagged, spelled_reads}
-use Rattle.bts_codec.proofs.FieldFormats.{name_is, code_is, path_is, half_is, moment_is, key_is}
+use Rattle.bts_codec.proofs.FieldFormats.{name_is, code_is, path_is, u32_from_is, moment_is, key_is}
 use Rattle.bts_codec.proofs.CommandFormats.{command_is}
 use Rattle.bts_codec.proofs.ReplyFormats.{reply_is}
 
@@ -64,8 +64,8 @@ module _ {A : Type 0} (f : Format A) where
   quiet_is : IsFormat f → IsFormat (quiet_parts f)
   quiet_is hf = pair_is front (f & only is_quiet back) front_is (pair_is f (only is_quiet back) hf (only_is is_quiet back back_is))
 
-request_is : IsFormat (parts (half 1))
-request_is = parts_is (half 1) (half_is 1)
+request_is : IsFormat (parts (u32_from 1))
+request_is = parts_is (u32_from 1) (u32_from_is 1)
 
 activation_is : IsFormat (parts path)
 activation_is = parts_is path path_is
@@ -106,7 +106,7 @@ unit_takes : TakesSpelling unit
 unit_takes = choice_takes unit_written unit_readers (
   never_reads unit_written 0,
   (
-    spelled_reads unit_written 1 (parts (half 1)) (ended_with (λ k n. unit_.Request n k)) (λ y. record { bytes = refl; fits = λ h. and_both _ _ h refl }) request_is.takes,
+    spelled_reads unit_written 1 (parts (u32_from 1)) (ended_with (λ k n. unit_.Request n k)) (λ y. record { bytes = refl; fits = λ h. and_both _ _ h refl }) request_is.takes,
     (
       spelled_reads unit_written 2 (parts path) (ended_with unit_.Activation) (λ y. record { bytes = refl; fits = λ h. and_both _ _ h refl }) activation_is.takes,
       (

@@ -9,7 +9,7 @@ use Rattle.bts_command.specs.declared.command.Due.TheVariants as due_
 use Rattle.bts_command.specs.declared.command.Command.{Command}
 use Rattle.bts_command.specs.declared.command.Command.TheVariants as command_
 use Rattle.bts_codec.specs.Formats.{Format, Written, Reader, written, unwritten, reads, never, choice, nothing, string, at_most, optional, ◌&◌}
-use Rattle.bts_codec.specs.Fields.{name, transid, program, code, path, half, moment, flag}
+use Rattle.bts_codec.specs.Fields.{name, transid, program, code, path, u32_from, moment, flag}
 
 abbrev pub target_written : Target → Written
 target_written (target_.Activity a) = written 1 name a
@@ -34,11 +34,11 @@ abbrev pub spot : Format Spot
 spot = choice spot_written spot_readers
 
 abbrev pub due_written : Due → Written
-due_written (due_.After n) = written 0 (half 0) n
+due_written (due_.After n) = written 0 (u32_from 0) n
 due_written (due_.At m) = written 1 moment m
 
 abbrev pub due_readers : List (Reader Due)
-due_readers = reads (half 0) due_.After ∷ reads moment due_.At ∷ []
+due_readers = reads (u32_from 0) due_.After ∷ reads moment due_.At ∷ []
 
 abbrev pub due : Format Due
 due = choice due_written due_readers

@@ -1,5 +1,5 @@
 -- The small parts of payloads: names, paths, moments, flags and words.
-use Rattle.std.specs.Prelude.{ℕ, Bool, true, false, ◌^◌, ◌-◌, [], ◌∷◌, Option, Some, None}
+use Rattle.std.specs.Prelude.{ℕ, Bool, true, false, [], ◌∷◌, Some}
 use Rattle.bts_names.specs.Names.{Name, ActivityPath}
 use Rattle.bts_names.specs.Grammar.{is_name_within, last_second}
 use Rattle.bts_names.specs.Vocabulary.{resps, resp_number, reasons, reason_number, stored_modes, mode_number, statuses, status_number, kinds, kind_number, timer_statuses, timer_number}
@@ -10,7 +10,7 @@ use Rattle.bts_names.specs.declared.state.Mode.{Mode}
 use Rattle.bts_names.specs.declared.state.Status.{Status}
 use Rattle.bts_names.specs.declared.state.EventKind.{EventKind}
 use Rattle.bts_names.specs.declared.state.TimerStatus.{TimerStatus}
-use Rattle.bts_codec.specs.Formats.{Format, only, as_parts, number_from, string, word, at_most, optional, ◌&◌}
+use Rattle.bts_codec.specs.Formats.{Format, only, as_parts, number_from, string, word, at_most, ◌&◌}
 
 -- a name of at most so many bytes
 abbrev pub name_within : ℕ → Format Name
@@ -30,11 +30,11 @@ abbrev pub code : Format Name
 code = name_within 4
 
 -- a number that has 32 bits, from so much on
-abbrev pub half : ℕ → Format ℕ
-half low = number_from low 4_294_967_295
+abbrev pub u32_from : ℕ → Format ℕ
+u32_from low = number_from low 4_294_967_295
 
 abbrev pub path : Format ActivityPath
-path = at_most 32 (half 1)
+path = at_most 32 (u32_from 1)
 
 abbrev pub moment : Format ℕ
 moment = number_from 0 last_second

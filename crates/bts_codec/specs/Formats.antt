@@ -1,5 +1,5 @@
 -- Formats: how a value is spelled, which values have a spelling, and what the front of some bytes spells.
-use Rattle.std.specs.Prelude.{ℕ, zero, suc, Bool, true, false, cond, ◌&&◌, ◌+◌, ◌-◌, ◌*◌, ◌/◌, ◌%◌, ◌^◌, nat_lt, nat_le, List, [], ◌∷◌, ◌++◌, length, take, drop, flat_map, slice_get, Option, Some, None, option_map}
+use Rattle.std.specs.Prelude.{ℕ, zero, suc, Bool, true, false, cond, ◌&&◌, ◌+◌, ◌-◌, ◌*◌, ◌/◌, ◌%◌, ◌^◌, nat_lt, List, [], ◌∷◌, ◌++◌, length, take, drop, flat_map, slice_get, Option, Some, None, option_map}
 use Rattle.std.specs.List.{list_all}
 use Rattle.bts_names.specs.Names.{Bytes}
 use Rattle.bts_names.specs.Grammar.{is_between}

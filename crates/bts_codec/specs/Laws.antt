@@ -1,5 +1,5 @@
 -- The laws between spelling and reading.
-use Rattle.std.specs.Prelude.{◌≡◌, List, [], ◌++◌, Option, Some, IsTrue}
+use Rattle.std.specs.Prelude.{◌≡◌, [], ◌++◌, Some, IsTrue}
 use Rattle.bts_names.specs.Names.{Bytes}
 use Rattle.bts_codec.specs.Formats.{Format}
 

@@ -1,8 +1,7 @@
 -- Replies: response, reason and value.
-use Rattle.std.specs.Prelude.{Bool, true, false, if◌then◌else◌, not, ◌&&◌, List, [], ◌∷◌, Option, Some, None}
-use Rattle.bts_names.specs.Names.{Bytes, Name, initial_name}
+use Rattle.std.specs.Prelude.{Bool, true, false, if◌then◌else◌, not, ◌&&◌, ◌||◌, List, [], ◌∷◌, Option, Some, None}
 use Rattle.std.specs.Str.{bytes_eq}
-use Rattle.std.specs.Prelude.{◌||◌}
+use Rattle.bts_names.specs.Names.{Bytes, Name, initial_name}
 use Rattle.bts_names.specs.Grammar.{is_name_within}
 use Rattle.bts_names.specs.declared.reply.Resp.{Resp}
 use Rattle.bts_names.specs.declared.reply.Resp.TheVariants as resp_

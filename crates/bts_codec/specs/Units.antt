@@ -1,6 +1,6 @@
 -- The payload of a unit of work.
-use Rattle.std.specs.Prelude.{◌≡◌, ℕ, Bool, true, false, ◌&&◌, ◌^◌, nat_eq, List, [], ◌∷◌, length, Option, Some, None, IsTrue}
-use Rattle.bts_names.specs.Names.{Bytes, Name, ActivityPath}
+use Rattle.std.specs.Prelude.{ℕ, Bool, true, false, ◌&&◌, ◌^◌, nat_eq, List, [], ◌∷◌, length, Option}
+use Rattle.bts_names.specs.Names.{Bytes}
 use Rattle.bts_names.specs.declared.key.Key.{Key}
 use Rattle.bts_command.specs.declared.command.Call.{Call}
 use Rattle.bts_command.specs.declared.ended.End.{End}
@@ -11,7 +11,7 @@ use Rattle.bts_command.specs.declared.ended.Ended.{Ended}
 use Rattle.bts_codec.specs.declared.parts.Front.{Front}
 use Rattle.bts_codec.specs.declared.parts.Back.{Back}
 use Rattle.bts_codec.specs.Formats.{Format, Reader, Written, written, unwritten, reads, never, choice, only, as_parts, nothing, number_from, at_most, whole_in, ◌&◌}
-use Rattle.bts_codec.specs.Fields.{name, code, path, half, moment, key}
+use Rattle.bts_codec.specs.Fields.{name, code, path, u32_from, moment, key}
 use Rattle.bts_codec.specs.Commands.{command}
 use Rattle.bts_codec.specs.Replies.{reply}
 
@@ -71,7 +71,7 @@ abbrev pub quiet_parts : {A : Type 0} → Format A → Format (Parts A)
 quiet_parts f = front & f & only is_quiet back
 
 abbrev pub kind_written : Ended → UnitKind → Written
-kind_written e (unit_.Request n k) = written 1 (parts (half 1)) (parts_of e k n)
+kind_written e (unit_.Request n k) = written 1 (parts (u32_from 1)) (parts_of e k n)
 kind_written e (unit_.Activation k p) = written 2 (parts path) (parts_of e k p)
 kind_written e (unit_.Notice k p) = written 3 (quiet_parts path) (parts_of e k p)
 kind_written e (unit_.Expiry k p t) = written 4 (quiet_parts (path & name)) (parts_of e k (p, t))
@@ -87,7 +87,7 @@ ended_with kind x = record { unit = kind x.0.key x.1.0; moment = x.0.moment; end
 abbrev pub unit_readers : List (Reader Ended)
 unit_readers =
     never ∷
-    reads (parts (half 1)) (ended_with (λ k n. unit_.Request n k)) ∷
+    reads (parts (u32_from 1)) (ended_with (λ k n. unit_.Request n k)) ∷
     reads (parts path) (ended_with unit_.Activation) ∷
     reads (quiet_parts path) (ended_with unit_.Notice) ∷
     reads (quiet_parts (path & name)) (ended_with (λ k x. unit_.Expiry k x.0 x.1)) ∷

@@ -5,7 +5,7 @@ ghost use Rattle.bts_codec.specs.Answers.{Gives};
 
 use crate::DecodeError;
 use crate::cursor::Cursor;
-use crate::numbers::{add_number, read_half, read_moment};
+use crate::numbers::{add_number, read_moment, read_u32};
 use crate::strings::{add_string, read_name};
 use bts_command::{Due, Spot, Target};
 use bts_names::{Blob, NoMemory};
@@ -89,7 +89,7 @@ pub fn read_due(bytes: &mut Cursor<'_>) -> Result<Due, DecodeError>
 {
     match bytes.byte()? {
         0 => {
-            let seconds = read_half(bytes, 0)?;
+            let seconds = read_u32(bytes, 0)?;
             Ok(Due::After(seconds))
         }
         1 => {

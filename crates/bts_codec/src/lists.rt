@@ -7,7 +7,7 @@ ghost use Rattle.bts_codec.specs.Answers.{Gives};
 
 use crate::DecodeError;
 use crate::cursor::Cursor;
-use crate::numbers::{add_number, read_half, read_number};
+use crate::numbers::{add_number, read_number, read_u32};
 use crate::strings::{add_string, read_name};
 use bts_command::Names;
 use bts_names::{Blob, Name16, NoMemory, Path};
@@ -39,11 +39,11 @@ pub fn add_path(out: &mut Blob, path: &Path) -> Result<(), NoMemory>
 
 fn read_steps(bytes: &mut Cursor<'_>, count: u64) -> Result<Path, DecodeError>
     requires { count ≤ 32 }
-    ensures { Gives result bytes.new (so_many_at (field.half 1).at count bytes.old) }
+    ensures { Gives result bytes.new (so_many_at (field.u32_from 1).at count bytes.old) }
 {
     let mut path = Path::root();
     for turn in 0..count {
-        let step = read_half(bytes, 1)?;
+        let step = read_u32(bytes, 1)?;
         let Some(child) = path.child(step) else {
             return Err(DecodeError::Malformed);
         };

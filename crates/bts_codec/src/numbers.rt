@@ -36,8 +36,8 @@ pub fn read_number(bytes: &mut Cursor<'_>, low: u64, high: u64) -> Result<u64, D
 }
 
 /// Reads a number that has 32 bits and is `low` at least.
-pub fn read_half(bytes: &mut Cursor<'_>, low: u32) -> Result<u32, DecodeError>
-    ensures { Gives result bytes.new ((field.half low).at bytes.old) }
+pub fn read_u32(bytes: &mut Cursor<'_>, low: u32) -> Result<u32, DecodeError>
+    ensures { Gives result bytes.new ((field.u32_from low).at bytes.old) }
 {
     let n = read_number(bytes, u64::from(low), u64::from(u32::MAX))?;
     Ok(n as u32)

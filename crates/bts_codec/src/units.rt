@@ -9,7 +9,7 @@ ghost use Rattle.bts_codec.specs.Answers.{Gives};
 use crate::DecodeError;
 use crate::cursor::Cursor;
 use crate::lists::{add_path, read_path};
-use crate::numbers::{add_number, read_half};
+use crate::numbers::{add_number, read_u32};
 use crate::parts::{Back, Front, add_back, add_front, read_back, read_front, read_quiet_back};
 use crate::strings::{add_string, read_name};
 use bts_command::{Ended, UnitKind};
@@ -70,10 +70,10 @@ fn ended_with(alloc: Global, unit: UnitKind, front: Front, back: Back) -> Ended
 }
 
 fn read_request(alloc: Global, bytes: &mut Cursor<'_>) -> Result<Ended, DecodeError>
-    ensures { Gives result bytes.new (reads (form.parts (field.half 1)) (form.ended_with (λ k n. unit_.Request n k)) bytes.old) }
+    ensures { Gives result bytes.new (reads (form.parts (field.u32_from 1)) (form.ended_with (λ k n. unit_.Request n k)) bytes.old) }
 {
     let front = read_front(bytes)?;
-    let item = read_half(bytes, 1)?;
+    let item = read_u32(bytes, 1)?;
     let back = read_back(alloc, bytes)?;
     let key = front.key;
     Ok(ended_with(alloc, UnitKind::Request { item, key }, front, back))

@@ -1,5 +1,4 @@
 use Rattle.std.proofs.lemmas.Result.{err_from_is_err_and}
-use Rattle.bts_codec.specs.Formats.{so_many_at}
 use Rattle.bts_codec.specs.Units.{call}
 use Rattle.bts_codec.proofs.Loops.{goes_on, ends, is_done}
 use Rattle.bts_codec.proofs.calls.read_each_call.Goals as goal

@@ -1,5 +1,4 @@
 use Rattle.std.proofs.lemmas.Result.{err_from_is_err_and}
-use Rattle.bts_codec.specs.Formats.{so_many_at}
 use Rattle.bts_codec.specs.Fields.{name}
 use Rattle.bts_codec.proofs.Loops.{goes_on, ends, is_done}
 use Rattle.bts_codec.proofs.lists.read_each_name.Goals as goal

@@ -1,14 +1,14 @@
 use Rattle.std.proofs.Common.{refl}
 use Rattle.bts_command.specs.declared.ended.UnitKind.TheVariants as unit_
 use Rattle.bts_codec.specs.Formats.{reads, ◌&◌}
-use Rattle.bts_codec.specs.Fields.{name, path, half}
+use Rattle.bts_codec.specs.Fields.{name, path, u32_from}
 use Rattle.bts_codec.specs.Units.{unit_readers, parts, quiet_parts, ended_with}
 use Rattle.bts_codec.proofs.Chosen.{chosen_is}
 use Rattle.bts_codec.proofs.units.read_unit.Goals as goal
 
 pub returns-in-1 : goal.returns-in-1
 returns-in-1 c =
-    rw (chosen_is unit_readers c.args.bytes.now c.byte.new.self 1 (reads (parts (half 1)) (ended_with (λ k n. unit_.Request n k))) (rw (← c.in-1.is) c.in_ok-byte.ensures) refl) c.read_request.ensures
+    rw (chosen_is unit_readers c.args.bytes.now c.byte.new.self 1 (reads (parts (u32_from 1)) (ended_with (λ k n. unit_.Request n k))) (rw (← c.in-1.is) c.in_ok-byte.ensures) refl) c.read_request.ensures
 
 pub returns-in-2 : goal.returns-in-2
 returns-in-2 c =
