@@ -1,0 +1,12 @@
+pub mod Chosen
+pub mod Choices
+pub mod Combinators
+pub mod CommandFormats
+pub mod Decoded
+pub mod Examples
+pub mod FieldFormats
+pub mod Loops
+pub mod OneForm
+pub mod Options
+pub mod ReplyFormats
+pub mod UnitFormats

@@ -1,0 +1,7 @@
+pub mod Formats
+pub mod Laws
+pub mod Fields
+pub mod Commands
+pub mod Replies
+pub mod Units
+pub mod Answers

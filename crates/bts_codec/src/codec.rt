@@ -1,0 +1,63 @@
+// Payloads of units, whole.
+ghost use Rattle.std.specs.Prelude.{◌≡◌, ◌↔◌, IsTrue, IfOk, Some};
+ghost use Rattle.bts_names.specs.Names.{Bytes};
+ghost use Rattle.bts_command.specs.declared.ended.Ended.{Ended};
+ghost use Rattle.bts_codec.specs.Units.{unit, is_unit, payload, unit_in};
+ghost use Rattle.bts_codec.specs.Laws.{NoPrefix};
+ghost use Rattle.bts_codec.specs.Answers.{Decodes, IsPayload, IfMalformed};
+
+use crate::DecodeError;
+use crate::cursor::Cursor;
+use crate::units::{add_unit, read_unit};
+use bts_command::Ended;
+use bts_names::{Blob, NoMemory};
+use std::alloc::Global;
+
+/// The payload of a unit, in time linear in its length, into one blob that grows by doubling.
+///
+/// The caller owes a unit that has one: a Request, Activation, Notice or Expiry that ended by Commit or
+/// Abend, with a number from 1 to 2^40, at most 500 calls and no rows; whose names are in their grammar,
+/// whose replies keep their rule, and in which no value has the mode ACTIVE. A Notice or an Expiry ends by
+/// Commit and has no calls.
+pub fn encode(alloc: Global, ended: &Ended) -> Result<Blob, NoMemory>
+    requires { IsTrue (is_unit ended.now) }
+    ensures { IfOk result (λ bytes. bytes ≡ payload ended.now) }
+{
+    let mut out = Blob::new(alloc);
+    add_unit(&mut out, ended)?;
+    Ok(out)
+}
+
+fn whole_unit(alloc: Global, bytes: &[u8]) -> Result<Ended, DecodeError>
+    ensures { Decodes result (unit_in bytes.now) }
+{
+    let mut cursor = Cursor::new(bytes);
+    let ended = read_unit(alloc, &mut cursor)?;
+    if !cursor.is_empty() {
+        return Err(DecodeError::Malformed);
+    }
+    Ok(ended)
+}
+
+/// The unit whose payload these bytes are. Malformed comes exactly where they are no unit's payload.
+///
+/// The bytes are read in place, each once, and only the data of containers, the names of sub-events and
+/// the list of calls are copied: time and memory are linear in the length.
+pub fn decode(alloc: Global, bytes: &[u8]) -> Result<Ended, DecodeError>
+    ensures found { IfOk result (λ ended. IsPayload ended bytes.now) }
+    ensures malformed { IfMalformed result ((e : Ended) → IsPayload e bytes.now → ⊥) }
+    ensures value { Decodes result (unit_in bytes.now) }
+{
+    whole_unit(alloc, bytes)
+}
+
+/// Bytes are read as a unit exactly where they are its payload: so every unit's payload is read again, and
+/// bytes are the payload of one unit at most.
+pub fn reads_what_is_spelled()
+    ensures { (bytes : Bytes) (e : Ended) → (unit_in bytes ≡ Some e) ↔ IsPayload e bytes }
+{}
+
+/// No unit's payload begins the payload of another.
+pub fn no_payload_begins_another()
+    ensures { NoPrefix unit }
+{}
