@@ -2,3 +2,6 @@ pub mod Fronts
 pub mod Parts
 pub mod Cuts
 pub mod Leaves
+pub mod SoFar
+pub mod OneReading
+pub mod Grown

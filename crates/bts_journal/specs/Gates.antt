@@ -1,5 +1,5 @@
 -- The bytes of a file: its header, its gates, and the records behind open gates.
-use Rattle.std.specs.Prelude.{◌≡◌, ℕ, Bool, false, cond, ◌+◌, ◌<◌, nat_eq, nat_lt, List, [], ◌∷◌, ◌++◌, length, take, drop, replicate, codes, Option, Some, None, IsTrue}
+use Rattle.std.specs.Prelude.{not, ◌≡◌, ℕ, Bool, false, cond, ◌+◌, ◌<◌, nat_eq, nat_lt, List, [], ◌∷◌, ◌++◌, length, take, drop, replicate, codes, Option, Some, None, IsTrue}
 use Rattle.std.specs.Int.{w32, to_be_bytes, from_be_bytes}
 use Rattle.bts_names.specs.Names.{Bytes, same}
 
@@ -61,9 +61,9 @@ abbrev pub gates_from : ℕ → List Bytes → List ℕ
 gates_from at [] = []
 gates_from at (p ∷ ps) = at ∷ gates_from (at + record_length p) ps
 
-abbrev pub IsClosed : Bytes → Type 0
-IsClosed [] = ⊥
-IsClosed (gate ∷ bytes) = is_open gate ≡ false
+abbrev pub is_closed : Bytes → Bool
+is_closed [] = false
+is_closed (gate ∷ bytes) = not (is_open gate)
 
 -- A whole file: the signature, from the first gate on records of these payloads, and at its end a closed gate. The
 -- bytes of the slots, and those behind the last gate, are free.
@@ -71,7 +71,7 @@ pub record Holds (bytes : Bytes) (payloads : List Bytes) (end : ℕ) : Type 0 wh
   pub repository : IsTrue (is_repository bytes)
   pub rest : Bytes
   pub records : AreRecords (drop first_gate bytes) payloads rest
-  pub closed : IsClosed rest
+  pub closed : IsTrue (is_closed rest)
   pub ends : end ≡ first_gate + records_length payloads
 
 -- the last gate, where the content is told, stands within it

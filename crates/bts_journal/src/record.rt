@@ -2,7 +2,7 @@
 ghost use Rattle.std.specs.Prelude.{◌≡◌, ◌≤◌, ◌<◌, ◌+◌, ◌^◌, length};
 ghost use Rattle.std.specs.Option.{option_map};
 ghost use Rattle.std.specs.Vec.{vec_capacity};
-ghost use Rattle.bts_journal.specs.Gates.{frame, frame_length, record_at};
+ghost use Rattle.bts_journal.specs.Gates.{frame, frame_length, record_at, is_repository, is_closed};
 
 /// An open gate: behind it stands a record. Every other byte is a closed gate.
 pub const OPEN_GATE: u8 = 0xA5;
@@ -13,6 +13,27 @@ pub const FIRST_GATE: usize = 64;
 /// A new file: the signature, two empty slots and a closed gate.
 pub const FRESH: [u8; 65] =
     *b"BTSREP01\0\0\0\0\0\0\0\0\0\0\0\0\0\0\0\0\0\0\0\0\0\0\0\0\0\0\0\0\0\0\0\0\0\0\0\0\0\0\0\0\0\0\0\0\0\0\0\0\0\0\0\0\0\0\0\0\0";
+
+/// Whether bytes may be those of a repository: there are enough of them, and they begin with the signature.
+pub fn is_repository(bytes: &[u8]) -> bool
+    ensures { result ≡ is_repository bytes.now }
+{
+    if bytes.len() < FIRST_GATE {
+        return false;
+    }
+    let (front, _) = bytes.split_at(8);
+    *front == *b"BTSREP01".as_slice()
+}
+
+/// Whether a gate that isn't open stands at the front of the bytes.
+pub fn is_closed(bytes: &[u8]) -> bool
+    ensures { result ≡ is_closed bytes.now }
+{
+    match bytes {
+        [gate, ..] => *gate != OPEN_GATE,
+        _ => false,
+    }
+}
 
 /// Puts together what is written behind a closed gate: the length and the bytes of a payload, and a closed
 /// gate behind them. It takes no memory, since there is room.
