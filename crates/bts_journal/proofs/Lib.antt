@@ -5,3 +5,4 @@ pub mod Leaves
 pub mod SoFar
 pub mod OneReading
 pub mod Grown
+pub mod Examples

@@ -5,7 +5,7 @@ ghost use Rattle.bts_disk.specs.Disks.{Only, LeavesOnly};
 ghost use Rattle.bts_journal.specs.Gates.{HasGate};
 ghost use Rattle.bts_journal.specs.Units.{HoldsUnits, IsFirstBad};
 ghost use Rattle.bts_command.specs.declared.ended.Ended.{Ended};
-ghost use Rattle.bts_journal.specs.Scans.{Scans, WhyNotScanned, FindsNext};
+ghost use Rattle.bts_journal.specs.Scans.{Scans, WhyNotScanned, FindsNext, StandsWith, units_of};
 ghost use Rattle.bts_journal.specs.declared.found.OpenError.TheVariants as error;
 
 use crate::record::{FIRST_GATE, is_closed, is_repository, split_record};
@@ -20,6 +20,7 @@ use std::alloc::Global;
 pub fn scan<D: Disk>(alloc: Global, disk: D) -> Result<(Journal<D>, Vec<Found>), (OpenError, D)>
     ensures ok { IfOk result (λ x. IfSome (D.content disk) (λ c. Scans c x.1.items x.0.end)) }
     ensures durable { IfOk result (λ x. IfSome (D.content disk) (λ c. Only c (D.may_leave x.0.disk))) }
+    ensures stands { IfOk result (λ x. IfSome (D.content disk) (λ _. StandsWith D.content D.may_leave x.0 (units_of x.1.items))) }
     ensures ready { IfOk result (λ x. HasGate (D.content x.0.disk) x.0.end) }
     ensures err { IfErr result (λ x. IfSome (D.content disk) (λ c. WhyNotScanned x.0 c)) }
     ensures content { IfOk result (λ x. D.content x.0.disk ≡ D.content disk) }
