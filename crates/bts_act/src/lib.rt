@@ -12,3 +12,6 @@ mod replies;
 mod timers;
 
 pub use commands::act;
+
+#[cfg(test)]
+mod tests;
