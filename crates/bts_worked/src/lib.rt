@@ -1,0 +1,2 @@
+//! Worked examples, computed from the definitions alone.
+#![tactic(auto)]
