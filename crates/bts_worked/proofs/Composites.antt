@@ -1,5 +1,5 @@
 -- Composites: how many entries they make, and in which order their sub-events are retrieved.
-use Rattle.std.proofs.Common.{◌≡◌, ℕ, Bool, true, false, List, [], ◌∷◌, Some, None, codes, refl}
+use Rattle.std.proofs.Common.{ℕ, Bool, true, false, List, [], ◌∷◌, Some, None, codes, refl}
 use Rattle.bts_names.specs.Names.{Name, initial_name}
 use Rattle.bts_names.specs.declared.reply.Resp.TheVariants as resp
 use Rattle.bts_names.specs.declared.reply.Reason.TheVariants as reason
@@ -14,8 +14,7 @@ use Rattle.bts_event.specs.declared.event.Event.{Event}
 use Rattle.bts_event.specs.declared.event.Event.TheVariants.{Atomic as atomic, Composite as composite}
 use Rattle.bts_event.specs.declared.event.Trigger.{Trigger}
 use Rattle.bts_event.specs.declared.event.Trigger.TheVariants.{Input, Timer}
-use Rattle.bts_event.specs.Pool.{Pool, settled}
-use Rattle.bts_timer.specs.Timers.{Timers}
+use Rattle.bts_event.specs.Pool.{settled}
 use Rattle.bts_tree.specs.Processes.{Process}
 use Rattle.bts_rows.specs.ActRows.{act_row}
 use Rattle.bts_rows.specs.FamilyRows.{family_row}
@@ -42,7 +41,6 @@ t1 = codes "T1"
 
 abbrev t2 : Name
 t2 = codes "T2"
-
 
 -- it turns twice and makes two entries; the second one finds nothing to retrieve any more
 two_entries : Plays root 0 (active run) (

@@ -1,5 +1,5 @@
 -- The form of a worked example: the process before, the commands with their replies, the process behind them.
-use Rattle.std.proofs.Common.{◌≡◌, ℕ, false, List, [], ◌∷◌, map, Some, None, codes}
+use Rattle.std.proofs.Common.{◌≡◌, ℕ, List, [], ◌∷◌, map, codes}
 use Rattle.bts_names.specs.Names.{Name}
 use Rattle.bts_names.specs.Answer.{left_by, reply_of}
 use Rattle.bts_names.specs.declared.reply.Reply.{Reply}
@@ -40,7 +40,6 @@ refusal r why = record { resp = r; reason = why; value = value.Nothing }
 -- ---- tables
 
 infix 6 ◌answers◌
-
 -- a line of a table: a command, and what it answers
 pub data Line : Type 0 where
   ◌answers◌ : Command → Reply → Line
