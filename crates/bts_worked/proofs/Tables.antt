@@ -1,6 +1,6 @@
 -- The form of a worked example: the process before, the commands with their replies, the process behind them.
 use Rattle.std.proofs.Common.{◌≡◌, ℕ, List, [], ◌∷◌, map, codes}
-use Rattle.bts_names.specs.Names.{Name}
+use Rattle.bts_names.specs.Names.{Name, initial_name}
 use Rattle.bts_names.specs.Answer.{left_by, reply_of}
 use Rattle.bts_names.specs.declared.reply.Reply.{Reply}
 use Rattle.bts_names.specs.declared.reply.Resp.{Resp}
@@ -13,8 +13,7 @@ use Rattle.bts_names.specs.declared.state.EventKind.{EventKind}
 use Rattle.bts_names.specs.declared.state.Mode.TheVariants as mode
 use Rattle.bts_command.specs.declared.command.Command.{Command}
 use Rattle.bts_command.specs.declared.command.Command.TheVariants as command
-use Rattle.bts_event.specs.Pool.{Pool, entered}
-use Rattle.bts_names.specs.Names.{initial_name}
+use Rattle.bts_event.specs.Pool.{entered}
 use Rattle.bts_tree.specs.Activities.{new_root}
 use Rattle.bts_tree.specs.Processes.{Process, edited, no_process, planted}
 use Rattle.bts_tree.specs.declared.activity.Activity.{Activity}
@@ -65,10 +64,6 @@ command_of (c answers r) = c
 abbrev pub Plays : Here → ℕ → Process → List Line → Process → Type 0
 Plays here now before lines behind = talk here held.Never now before (map command_of lines) ≡ (lines, behind)
 
--- the same where the process behind is told by another table
-abbrev pub Says : Here → ℕ → Process → List Line → Type 0
-Says here now before lines = (talk here held.Never now before (map command_of lines)).0 ≡ lines
-
 -- ---- frames and processes
 
 abbrev pub request : Here
@@ -90,10 +85,6 @@ new = planted (new_root (codes "ORD1") (codes "ROOT")) undefined
 -- the root is changed
 abbrev pub with_root : (Activity → Activity) → Process → Process
 with_root = edited []
-
--- the root's pool is this one
-abbrev pub pooled : Pool → Process → Process
-pooled pool = with_root (λ a. record a { pool = pool })
 
 -- a process whose root was run, and the same once its frame is open and behind a plain RETURN
 abbrev pub run : Process
