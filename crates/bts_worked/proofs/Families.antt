@@ -24,7 +24,7 @@ use Rattle.bts_rows.specs.ActRows.{act_row}
 use Rattle.bts_rows.specs.FamilyRows.{family_row}
 use Rattle.bts_rows.specs.RequestRows.{request_row}
 use Rattle.bts_rows.specs.Rows.{answer, row}
-use Rattle.bts_worked.proofs.Tables.{◌answers◌, Plays, talk, ok, normal, refusal, root, request, new, active, dormant, with_root, define_process}
+use Rattle.bts_worked.proofs.Tables.{◌answers◌, Plays, talk, undefined, run, ok, normal, refusal, root, request, new, active, dormant, with_root, define_process}
 
 abbrev a : Name
 a = codes "A"
@@ -93,6 +93,18 @@ first_run : Plays root 0 (family false new_child) (
     (family false (started new_child))
 unfolding talk answer row family_row
 first_run = refl
+
+-- a request defines a process and runs its root
+root_runs : Plays request 0 undefined (
+    (command.Run of.AcqProcess false None answers refusal resp.Invreq reason.NotAcquired)
+    ∷ (define_process answers ok)
+    ∷ (define_process answers refusal resp.Invreq reason.Acquired)
+    ∷ (command.Run of.AcqProcess false None answers ok)
+    ∷ (command.DefineActivity a None (codes "T1") (codes "KID") answers refusal resp.Invreq reason.Place)
+    ∷ [])
+    run
+unfolding talk answer row family_row request_row
+root_runs = refl
 
 -- whether a frame opens is the value of a RUN SYNCHRONOUS and of a LINK; none does on what is suspended
 frame_opens : Plays root 0 (family false new_child) ((command.Run child true None answers normal (value.Ran true)) ∷ []) (family false (started new_child))
