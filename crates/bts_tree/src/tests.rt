@@ -159,6 +159,36 @@ fn children_are_found_and_complete(rt: HostRuntime) -> Result<(), Fail> {
     Ok(())
 }
 
+fn reads_its_tree(alloc: Global, scope: &Scope) -> bool {
+    let Some(tree) = scope.tree() else {
+        return false;
+    };
+    tree.facts();
+    let root = Path::root();
+    let Some(activity) = tree.get(&root) else {
+        return false;
+    };
+    let Ok(copy) = activity.copy(alloc) else {
+        return false;
+    };
+    let Ok(twin) = tree.copy(alloc) else {
+        return false;
+    };
+    let children = tree.len() == 4 && tree.child(&root, &named("C2")).is_some();
+    children && !tree.is_empty() && activity.same(&copy) && tree.same(&twin)
+}
+
+#[test]
+fn a_tree_is_read_and_copied(rt: HostRuntime) -> Result<(), Fail> {
+    let alloc = rt.alloc();
+    let key = key_named("P").ok_or(NoMemory)?;
+    let mut scope = Scope::undefined(alloc, key);
+    assert!(rt; grows(alloc, &mut scope));
+    scope.facts();
+    assert!(rt; reads_its_tree(alloc, &scope));
+    Ok(())
+}
+
 fn puts_container(alloc: Global, scope: &mut Scope) -> bool {
     if scope.save(&Path::root(), false).is_err() {
         return false;
