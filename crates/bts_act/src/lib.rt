@@ -1,0 +1,17 @@
+//! The commands on containers, events and timers, as an activity does them.
+//!
+//! Each row of the table of commands is done once, on what it changes: containers, or one activity. A row that
+//! wants memory for two things takes both before it changes either, or gives the first one back.
+#![tactic(auto)]
+
+mod commands;
+mod containers;
+mod events;
+mod places;
+mod replies;
+mod timers;
+
+pub use commands::act;
+
+#[cfg(test)]
+mod tests;

@@ -1,0 +1,3 @@
+pub mod Moments
+pub mod Picks
+pub mod Examples

@@ -1,0 +1,5 @@
+pub mod Gates
+pub mod Journals
+pub mod Crashes
+pub mod Units
+pub mod Scans
