@@ -18,4 +18,3 @@ pub mod Frames
 pub mod ActSound
 pub mod Proper
 pub mod ProperRows
-pub mod Examples

@@ -1,5 +1,4 @@
 pub mod Alike
-pub mod Examples
 pub mod Finds
 pub mod Least
 pub mod New
