@@ -1,1 +1,6 @@
 mod Alike
+pub mod Dates
+pub mod Months
+pub mod MomentLaws
+pub mod Texts
+pub mod Years
