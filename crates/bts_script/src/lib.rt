@@ -1,0 +1,8 @@
+//! Statements of scripts, and the lines that say them.
+#![tactic(auto)]
+
+mod line;
+mod statement;
+
+pub use line::{Line, Place, ScriptError, Word};
+pub use statement::{Cond, Given, Script, Statement};
