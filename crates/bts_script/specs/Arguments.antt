@@ -1,12 +1,10 @@
 -- The arguments of lines, each with the reason for which it is refused.
-use Rattle.std.specs.Prelude.{ℕ, Bool, cond, ◌&&◌, ◌||◌, ◌+◌, ◌-◌, ◌*◌, nat_lt, nat_le, List, [], ◌∷◌, codes, length, Option, Some, None, option_map, Result, Ok, Err}
-use Rattle.std.specs.Option.{option_and_then}
-use Rattle.std.specs.List.{list_all}
+use Rattle.std.specs.Prelude.{ℕ, zero, suc, Bool, cond, ◌&&◌, ◌||◌, ◌+◌, ◌-◌, ◌*◌, nat_eq, List, [], ◌∷◌, codes, length, Option, Some, None, option_map, Result, Ok, Err}
 use Rattle.std.specs.Str.{bytes_eq}
-use Rattle.bts_names.specs.Names.{Bytes, Name, ActivityPath, same}
+use Rattle.bts_names.specs.Names.{Bytes, Name, ActivityPath}
 use Rattle.bts_names.specs.Names.{initial_name}
 use Rattle.bts_names.specs.Grammar.{is_between, is_name_within}
-use Rattle.bts_script.specs.Texts.{is_digit, number_within, parts_at, behind_front, closed_by, only_if}
+use Rattle.bts_script.specs.Texts.{◌>>=◌, is_digit, number_within, behind_front, cut_at, closed_by}
 use Rattle.bts_names.specs.Vocabulary.{resps, resp_word, stored_modes, mode_word, statuses, status_word, at_word}
 use Rattle.bts_names.specs.declared.reply.Resp.{Resp}
 use Rattle.bts_names.specs.declared.state.Mode.{Mode}
@@ -52,22 +50,33 @@ code = name_within 4
 abbrev pub event_name : Bytes → Result Name Word
 event_name = named (λ n. is_name_within 16 n || bytes_eq n initial_name)
 
--- at most 32 numbers from 1
-abbrev pub is_path : ActivityPath → Bool
-is_path p = nat_le (length p) 32 && list_all (λ n. nat_lt 0 n) p
+-- a number from 1
+unfoldable pub step_in : Bytes → Option ℕ
+step_in text = do
+  n ← number_within 4_294_967_295 text
+  cond (nat_eq n 0) None (Some n)
 
--- a path: `/`, or `/` and a number up to 32 times
-abbrev pub numbers_in : List Bytes → Option (List ℕ)
-numbers_in [] = Some []
-numbers_in (part ∷ parts) = option_and_then (λ n. option_map (λ ns. n ∷ ns) (numbers_in parts)) (number_within 4_294_967_295 part)
+-- so many such numbers or fewer, with `/` between them
+abbrev pub one_step : Option ℕ → Option ActivityPath
+one_step None = None
+one_step (Some n) = Some (n ∷ [])
 
-abbrev pub path_in : List Bytes → Option ActivityPath
-path_in ([] ∷ [] ∷ []) = Some []
-path_in ([] ∷ part ∷ parts) = only_if is_path (numbers_in (part ∷ parts))
-path_in _ = None
+abbrev pub step_then : (Bytes → Option ActivityPath) → Bytes → Option (Bytes × Bytes) → Option ActivityPath
+step_then others text None = one_step (step_in text)
+step_then others text (Some parts) = step_in parts.0 >>= (λ step. others parts.1 >>= (λ steps. Some (step ∷ steps)))
+
+unfoldable pub steps_in : ℕ → Bytes → Option ActivityPath
+steps_in zero text = None
+steps_in (suc n) text = step_then (steps_in n) text (cut_at 47 text)
+
+-- a path: `/`, or up to 32 times `/` and a number
+unfoldable pub path_in : Bytes → Option ActivityPath
+path_in text = do
+  steps ← behind_front (codes "/") text
+  cond (nat_eq (length steps) 0) (Some []) (steps_in 32 steps)
 
 abbrev pub path : Bytes → Result ActivityPath Word
-path bytes = or_refused word.Name (path_in (parts_at 47 bytes))
+path bytes = or_refused word.Name (path_in bytes)
 
 -- numbers, moments and words
 abbrev pub number : Bytes → Result ℕ Word
@@ -86,27 +95,30 @@ abbrev pub status : Bytes → Result Status Word
 status bytes = or_refused word.Known (at_word status_word statuses bytes)
 
 -- the value of a hexadecimal digit
-abbrev pub hex_digit : ℕ → Option ℕ
+unfoldable pub hex_digit : ℕ → Option ℕ
 hex_digit b = cond (is_digit b) (Some (b - 48)) (cond (is_between 65 70 b) (Some (b - 55)) (cond (is_between 97 102 b) (Some (b - 87)) None))
 
-abbrev pub hex_pair : ℕ → ℕ → Option ℕ
-hex_pair a b = option_and_then (λ x. option_map (λ y. 16 * x + y) (hex_digit b)) (hex_digit a)
+unfoldable pub hex_pair : ℕ → ℕ → Option ℕ
+hex_pair a b = do
+  x ← hex_digit a
+  y ← hex_digit b
+  Some (16 * x + y)
 
-abbrev pub hex_pairs : Bytes → Option Bytes
+unfoldable pub hex_pairs : Bytes → Option Bytes
 hex_pairs [] = Some []
 hex_pairs (a ∷ []) = None
-hex_pairs (a ∷ b ∷ bs) = option_and_then (λ x. option_map (λ xs. x ∷ xs) (hex_pairs bs)) (hex_pair a b)
+hex_pairs (a ∷ b ∷ bs) = hex_pair a b >>= (λ x. hex_pairs bs >>= (λ xs. Some (x ∷ xs)))
 
 -- a literal: 'text' without a quote inside, or X'pairs'
 abbrev pub or_else : {A : Type 0} → Option A → Option A → Option A
 or_else None y = y
 or_else (Some x) y = Some x
 
-abbrev pub text_in : Bytes → Option Bytes
-text_in bytes = option_and_then (closed_by 39) (behind_front (codes "'") bytes)
+unfoldable pub text_in : Bytes → Option Bytes
+text_in bytes = behind_front (codes "'") bytes >>= closed_by 39
 
-abbrev pub pairs_in : Bytes → Option Bytes
-pairs_in bytes = option_and_then hex_pairs (option_and_then (closed_by 39) (behind_front (codes "X'") bytes))
+unfoldable pub pairs_in : Bytes → Option Bytes
+pairs_in bytes = behind_front (codes "X'") bytes >>= closed_by 39 >>= hex_pairs
 
 abbrev pub literal_in : Bytes → Option Bytes
 literal_in bytes = or_else (text_in bytes) (pairs_in bytes)
@@ -118,11 +130,14 @@ literal bytes = or_refused word.Literal (literal_in bytes)
 abbrev pub fill_limit : ℕ
 fill_limit = 1_100_000
 
-abbrev pub fill_in : Bytes → Option Given
-fill_in bytes = option_map Fill (option_and_then (number_within fill_limit) (argument (codes "FILL") bytes))
+unfoldable pub fill_in : Bytes → Option Given
+fill_in bytes = do
+  inside ← argument (codes "FILL") bytes
+  n ← number_within fill_limit inside
+  Some (Fill n)
 
 abbrev pub last_in : Bytes → Option Given
-last_in bytes = cond (same (codes "LAST") bytes) (Some Last) None
+last_in bytes = cond (bytes_eq bytes (codes "LAST")) (Some Last) None
 
 abbrev pub given_in : Bytes → Option Given
 given_in bytes = or_else (last_in bytes) (or_else (fill_in bytes) (option_map Literal (literal_in bytes)))

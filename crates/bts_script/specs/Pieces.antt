@@ -1,7 +1,8 @@
 -- Pieces of a line: words, words with an argument, options and choices.
 use Rattle.std.specs.Prelude.{ℕ, zero, suc, cond, nat_eq, List, [], ◌∷◌, ◌++◌, codes, Option, Some, None, option_map, Result, Ok, Err}
-use Rattle.bts_names.specs.Names.{Bytes, same}
-use Rattle.bts_script.specs.Texts.{behind_front, closed_by, cut_at_first, cut_at_last, without_spaces}
+use Rattle.std.specs.Str.{bytes_eq}
+use Rattle.bts_names.specs.Names.{Bytes}
+use Rattle.bts_script.specs.Texts.{◌>>=◌, behind_front, closed_by, cut_at_last, without_spaces, first_word}
 use Rattle.bts_script.specs.declared.line.Word.{Word}
 
 infixl 5 ◌▹◌
@@ -24,17 +25,13 @@ abbrev pub result_of : {A B : Type 0} → (A → B) → Result A Word → Result
 result_of f (Err why) = Err why
 result_of f (Ok x) = Ok (f x)
 
--- the first word of a line, and the line from the next one on
-abbrev pub first_word : Bytes → Bytes × Bytes
-first_word line = let x : Bytes × Bytes = cut_at_first 32 line in (x.0, without_spaces x.1)
-
 -- nothing is read
 abbrev pub says : {A : Type 0} → A → Piece A
 says x line = Some (Ok x, line)
 
 -- the line behind this word, where it stands first
-abbrev pub behind_word : Bytes → Bytes → Option Bytes
-behind_word word line = let next : Bytes × Bytes = first_word line in cond (same word next.0) (Some next.1) None
+unfoldable pub behind_word : Bytes → Bytes → Option Bytes
+behind_word word line = let next : Bytes × Bytes = first_word line in cond (bytes_eq next.0 word) (Some next.1) None
 
 -- behind a piece this word
 abbrev pub ◌▸◌ : {A : Type 0} → Piece A → Bytes → Piece A
@@ -71,11 +68,14 @@ bare read [] = None
 bare read (b ∷ bs) = let next : Bytes × Bytes = first_word (b ∷ bs) in Some (read next.0, next.1)
 
 -- a word with an argument in parentheses, which has no space and no `)`
-abbrev pub argument : Bytes → Bytes → Option Bytes
-argument word text = elim (behind_front (word ++ codes "(") text) [ None ↦ None | Some bytes ↦ closed_by 41 bytes ]
+unfoldable pub argument : Bytes → Bytes → Option Bytes
+argument word text = do
+  opened ← behind_front word text
+  bytes ← behind_front (codes "(") opened
+  closed_by 41 bytes
 
 -- the argument of this word, where it stands first, and the line behind it
-abbrev pub argument_in : Bytes → Bytes → Option (Bytes × Bytes)
+unfoldable pub argument_in : Bytes → Bytes → Option (Bytes × Bytes)
 argument_in word line =
     let next : Bytes × Bytes = first_word line in
     option_map (λ bytes. (bytes, next.1)) (argument word next.0)
@@ -84,16 +84,16 @@ abbrev pub given : {A : Type 0} → Bytes → (Bytes → Result A Word) → Piec
 given word read line = option_map (λ x. (read x.0, x.1)) (argument_in word line)
 
 -- the same, where the argument goes up to the last `)` of the line
-abbrev pub at_next_word : Bytes → Bytes → Option (Bytes × Bytes)
+unfoldable pub at_next_word : Bytes → Bytes → Option (Bytes × Bytes)
 at_next_word bytes [] = Some (bytes, [])
 at_next_word bytes (b ∷ bs) = cond (nat_eq b 32) (Some (bytes, without_spaces bs)) None
 
-abbrev pub cut_argument : Option (Bytes × Bytes) → Option (Bytes × Bytes)
-cut_argument None = None
-cut_argument (Some x) = at_next_word x.0 x.1
-
-abbrev pub argument_to_last : Bytes → Bytes → Option (Bytes × Bytes)
-argument_to_last word line = elim (behind_front (word ++ codes "(") line) [ None ↦ None | Some bytes ↦ cut_argument (cut_at_last 41 bytes) ]
+unfoldable pub argument_to_last : Bytes → Bytes → Option (Bytes × Bytes)
+argument_to_last word line = do
+  opened ← behind_front word line
+  bytes ← behind_front (codes "(") opened
+  parts ← cut_at_last 41 bytes
+  at_next_word parts.0 parts.1
 
 abbrev pub given_to_last : {A : Type 0} → Bytes → (Bytes → Result A Word) → Piece A
 given_to_last word read line = option_map (λ x. (read x.0, x.1)) (argument_to_last word line)

@@ -1,7 +1,9 @@
 //! Statements of scripts, and the lines that say them.
 #![tactic(auto)]
 
+mod arguments;
 mod line;
+mod pieces;
 mod statement;
 
 pub use line::{Line, Place, ScriptError, Word};
