@@ -14,8 +14,9 @@ use Rattle.bts_script.specs.declared.line.Place.{Place}
 use Rattle.bts_script.specs.declared.line.Place.TheVariants as place
 use Rattle.bts_script.specs.declared.line.ScriptError.{ScriptError}
 use Rattle.bts_script.specs.declared.line.ScriptError.TheVariants as error
-use Rattle.bts_script.specs.Pieces.{whole}
-use Rattle.bts_script.specs.Forms.{forms, Form, Setting, outside, closing, in_blocks, in_programs, in_requests}
+use Rattle.bts_script.specs.declared.line.Setting.{Setting}
+use Rattle.bts_script.specs.declared.line.Setting.TheVariants as setting
+use Rattle.bts_script.specs.Forms.{Form, forms}
 use Rattle.bts_script.specs.Built.{is_built}
 
 -- ---- one line
@@ -32,17 +33,21 @@ is_skipped text = begins_remark (without_spaces text)
 abbrev pub Saying : Type 0
 Saying = Setting × Result Line Word
 
+abbrev pub or_next : Setting → Option Saying → Option (Result Line Word) → Option Saying
+or_next at others None = others
+or_next at others (Some x) = Some (at, x)
+
 abbrev pub form_of : List Form → Bytes → Option Saying
-form_of [] text = None
-form_of (f ∷ fs) text = elim (whole f.piece text) [ None ↦ form_of fs text | Some x ↦ Some (f.belongs, x) ]
+form_of [] line = None
+form_of (f ∷ fs) line = or_next f.belongs (form_of fs line) (f.reads line)
 
 -- whether a form belongs in such a block, or outside of one
 abbrev pub belongs_at : Setting → Option Place → Bool
-belongs_at outside None = true
-belongs_at closing (Some p) = true
-belongs_at in_blocks (Some p) = true
-belongs_at in_programs (Some place.Program) = true
-belongs_at in_requests (Some place.Request) = true
+belongs_at setting.Outside None = true
+belongs_at setting.Closing (Some p) = true
+belongs_at setting.InBlocks (Some p) = true
+belongs_at setting.InPrograms (Some place.Program) = true
+belongs_at setting.InRequests (Some place.Request) = true
 belongs_at _ _ = false
 
 -- refused so where the test holds, and else what follows
@@ -63,7 +68,7 @@ is_printable b = is_between 32 126 b
 
 -- what a line says in such a block, or outside of one, or why it is refused
 abbrev pub line_in : Through → Option Place → Bytes → Result Line Word
-line_in through at text = stop_where (not (list_all is_printable text)) word.Character (said_at through at text (form_of forms text))
+line_in through at text = stop_where (not (list_all is_printable text)) word.Character (said_at through at text (form_of forms (without_spaces text)))
 
 -- ---- the lines of a block
 

@@ -98,10 +98,8 @@ argument_to_last word line = do
 abbrev pub given_to_last : {A : Type 0} → Bytes → (Bytes → Result A Word) → Piece A
 given_to_last word read line = option_map (λ x. (read x.0, x.1)) (argument_to_last word line)
 
--- a piece that is a whole line; spaces at both ends are ignored
-abbrev pub whole : {A : Type 0} → Piece A → Bytes → Option (Result A Word)
-whole p line =
-    elim (p (without_spaces line)) [
-      | None ↦ None
-      | Some x ↦ elim x.1 [ [] ↦ Some x.0 | b ∷ bs ↦ None ]
-    ]
+-- a piece behind which nothing stands
+unfoldable pub ended : {A : Type 0} → Said A → Option (Result A Word)
+ended None = None
+ended (Some (x, [])) = Some x
+ended (Some (x, b ∷ bs)) = None

@@ -6,5 +6,5 @@ mod line;
 mod pieces;
 mod statement;
 
-pub use line::{Line, Place, ScriptError, Word};
+pub use line::{Line, Place, ScriptError, Setting, Word};
 pub use statement::{Cond, Given, Script, Statement};

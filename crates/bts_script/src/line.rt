@@ -29,6 +29,18 @@ pub enum Place {
     Request,
 }
 
+/// Where a form of lines belongs.
+#[derive(Clone, Copy, Debug, PartialEq, Eq)]
+pub enum Setting {
+    /// Outside of blocks.
+    Outside,
+    /// At the end of a block.
+    Closing,
+    InBlocks,
+    InPrograms,
+    InRequests,
+}
+
 /// Why a line is refused.
 #[derive(Clone, Copy, Debug, PartialEq, Eq)]
 pub enum Word {
