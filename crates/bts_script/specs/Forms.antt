@@ -37,6 +37,12 @@ spot = says spots.Of ▹ target or says spots.Process ▸ codes "PROCESS" or say
 unfoldable pub either : Bytes → Bytes → Piece Bool
 either yes_word no_word = says true ▸ yes_word or says false ▸ no_word
 
+unfoldable pub synchrony : Piece Bool
+synchrony = either (codes "SYNCHRONOUS") (codes "ASYNCHRONOUS")
+
+unfoldable pub connective : Piece Bool
+connective = either (codes "AND") (codes "OR")
+
 unfoldable pub whether : Bytes → Piece Bool
 whether word = says true ▸ word or says false
 
@@ -106,7 +112,7 @@ unfoldable pub delete_activity : Piece Command
 delete_activity = says command.DeleteActivity ▸ codes "DELETE" ▹ given (codes "ACTIVITY") name
 
 unfoldable pub run : Piece Command
-run = says command.Run ▸ codes "RUN" ▹ target ▹ either (codes "SYNCHRONOUS") (codes "ASYNCHRONOUS") ▹ input
+run = says command.Run ▸ codes "RUN" ▹ target ▹ synchrony ▹ input
 
 unfoldable pub link : Piece Command
 link = says command.Link ▸ codes "LINK" ▹ target ▹ input
@@ -139,7 +145,7 @@ unfoldable pub define_input : Piece Command
 define_input = says command.DefineInput ▸ codes "DEFINE" ▸ codes "INPUT" ▹ given (codes "EVENT") name
 
 unfoldable pub define_composite : Piece Command
-define_composite = says command.DefineComposite ▸ codes "DEFINE" ▸ codes "COMPOSITE" ▹ given (codes "EVENT") name ▹ either (codes "AND") (codes "OR") ▹ up_to 8 (given (codes "SUBEVENT") name)
+define_composite = says command.DefineComposite ▸ codes "DEFINE" ▸ codes "COMPOSITE" ▹ given (codes "EVENT") name ▹ connective ▹ up_to 8 (given (codes "SUBEVENT") name)
 
 unfoldable pub add_subevent : Piece Command
 add_subevent = says command.AddSubevent ▸ codes "ADD" ▹ given (codes "SUBEVENT") name ▹ given (codes "EVENT") name

@@ -29,6 +29,16 @@ result_of f (Ok x) = Ok (f x)
 abbrev pub says : {A : Type 0} → A → Piece A
 says x line = Some (Ok x, line)
 
+-- what is made of several parts, of which each may be refused
+abbrev pub made_of_2 : {A B C : Type 0} → (A → B → C) → Result A Word → Result B Word → Result C Word
+made_of_2 f a b = applied (applied (Ok f) a) b
+
+abbrev pub made_of_3 : {A B C D : Type 0} → (A → B → C → D) → Result A Word → Result B Word → Result C Word → Result D Word
+made_of_3 f a b c = applied (applied (applied (Ok f) a) b) c
+
+abbrev pub made_of_4 : {A B C D E : Type 0} → (A → B → C → D → E) → Result A Word → Result B Word → Result C Word → Result D Word → Result E Word
+made_of_4 f a b c d = applied (applied (applied (applied (Ok f) a) b) c) d
+
 -- the line behind this word, where it stands first
 unfoldable pub behind_word : Bytes → Bytes → Option Bytes
 behind_word word line = let next : Bytes × Bytes = first_word line in cond (bytes_eq next.0 word) (Some next.1) None
