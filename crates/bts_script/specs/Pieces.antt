@@ -39,6 +39,9 @@ made_of_3 f a b c = applied (applied (applied (Ok f) a) b) c
 abbrev pub made_of_4 : {A B C D E : Type 0} → (A → B → C → D → E) → Result A Word → Result B Word → Result C Word → Result D Word → Result E Word
 made_of_4 f a b c d = applied (applied (applied (applied (Ok f) a) b) c) d
 
+abbrev pub made_of_5 : {A B C D E F : Type 0} → (A → B → C → D → E → F) → Result A Word → Result B Word → Result C Word → Result D Word → Result E Word → Result F Word
+made_of_5 f a b c d e = applied (applied (applied (applied (applied (Ok f) a) b) c) d) e
+
 -- the line behind this word, where it stands first
 unfoldable pub behind_word : Bytes → Bytes → Option Bytes
 behind_word word line = let next : Bytes × Bytes = first_word line in cond (bytes_eq next.0 word) (Some next.1) None

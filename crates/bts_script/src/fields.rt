@@ -6,10 +6,10 @@ ghost use Rattle.bts_script.specs.Arguments.{name, name_within, event_name, numb
 ghost use Rattle.bts_script.specs.Forms.{target, spot, either, synchrony, connective, whether, input, due, acquired};
 
 use crate::Word;
-use crate::arguments::{moment, name, number, path};
+use crate::arguments::{mode, moment, name, number, path, status};
 use crate::pieces::{argument_in, behind_word, first_word};
 use bts_command::{Due, Spot, Target};
-use bts_names::{Moment, Name, Name16, Path};
+use bts_names::{Mode, Moment, Name, Name16, Path, Status};
 
 /// A word that is a name.
 pub fn bare_name<K, const MOST: usize>(line: &[u8]) -> Option<(Result<Name<K, MOST>, Word>, &[u8])>
@@ -177,5 +177,31 @@ pub fn acquired(line: &[u8]) -> (Result<Option<Target>, Word>, &[u8])
     match behind_word(b"ACQACTIVITY", line) {
         Some(rest) => (Ok(Some(Target::AcqActivity)), rest),
         None => (Ok(None), line),
+    }
+}
+
+/// MODE(m) or nothing
+pub fn maybe_mode(line: &[u8]) -> (Result<Option<Mode>, Word>, &[u8])
+    ensures { Some (result.0, result.1.now) ≡ maybe (given (codes "MODE") mode) line.now }
+{
+    let Some((bytes, rest)) = argument_in(b"MODE", line) else {
+        return (Ok(None), line);
+    };
+    match mode(bytes) {
+        Ok(mode) => (Ok(Some(mode)), rest),
+        Err(why) => (Err(why), rest),
+    }
+}
+
+/// STATUS(s) or nothing
+pub fn maybe_status(line: &[u8]) -> (Result<Option<Status>, Word>, &[u8])
+    ensures { Some (result.0, result.1.now) ≡ maybe (given (codes "STATUS") status) line.now }
+{
+    let Some((bytes, rest)) = argument_in(b"STATUS", line) else {
+        return (Ok(None), line);
+    };
+    match status(bytes) {
+        Ok(status) => (Ok(Some(status)), rest),
+        Err(why) => (Err(why), rest),
     }
 }

@@ -10,6 +10,8 @@ mod fields;
 mod line;
 mod pieces;
 mod process_lines;
+mod script_lines;
+mod session_lines;
 mod statement;
 mod timer_lines;
 
