@@ -1,0 +1,82 @@
+// What a line says, and why one is refused.
+use crate::Statement;
+use bts_names::{Key, Mode, Moment, ProcName, ProcType, ProgName, Status};
+use thiserror::Error;
+
+/// What a line says.
+#[derive(Debug, Drop, PartialEq, Eq)]
+pub enum Line {
+    Statement(Statement),
+    Program(ProgName),
+    Request(Key),
+    End,
+    Clock(Moment),
+    Settle,
+    /// An option is None where the line doesn't have it.
+    Browse {
+        ptype: Option<ProcType>,
+        pname: Option<ProcName>,
+        mode: Option<Mode>,
+        status: Option<Status>,
+        suspended: bool,
+    },
+}
+
+/// Whose block it is.
+#[derive(Clone, Copy, Debug, PartialEq, Eq)]
+pub enum Place {
+    Program,
+    Request,
+}
+
+/// Where a form of lines belongs.
+#[derive(Clone, Copy, Debug, PartialEq, Eq)]
+pub enum Setting {
+    /// Outside of blocks.
+    Outside,
+    /// At the end of a block.
+    Closing,
+    InBlocks,
+    InPrograms,
+    InRequests,
+}
+
+/// Why a line is refused.
+#[derive(Clone, Copy, Debug, PartialEq, Eq)]
+pub enum Word {
+    /// The text is too long.
+    Long,
+    /// A byte is no printable character of ASCII.
+    Character,
+    /// The line has no form.
+    Word,
+    /// The form is one that isn't let through yet.
+    NotYet,
+    /// The form doesn't belong there.
+    Place,
+    /// An argument is no name, or no path.
+    Name,
+    /// An argument is no number.
+    Number,
+    /// An argument is no moment.
+    Moment,
+    /// An argument is no literal.
+    Literal,
+    /// An argument is none of the words that may stand there.
+    Known,
+    /// The name was there before.
+    Twice,
+    /// The block doesn't hold the label.
+    Label,
+    /// The block isn't closed.
+    Open,
+}
+
+/// Why a text is no script: the first bad line and the reason, or want of memory.
+#[derive(Clone, Copy, Debug, PartialEq, Eq, Error)]
+pub enum ScriptError {
+    #[error("bad line {line}")]
+    Syntax { line: u32, reason: Word },
+    #[error("no memory")]
+    NoMemory,
+}

@@ -1,0 +1,82 @@
+// The lines of a script that are no commands of one call: labels, jumps and PUT.
+ghost use Rattle.std.specs.Prelude.{◌≡◌, IfOk};
+ghost use Rattle.std.specs.Option.{option_map};
+ghost use Rattle.bts_script.specs.declared.statement.Statement.TheVariants.{Put, When};
+ghost use Rattle.bts_script.specs.Pieces.{made_of_2, made_of_3, ended};
+ghost use Rattle.bts_script.specs.Forms.{label_line, goto_line, when_line, condition, put_container};
+
+use crate::arguments::{event_name, literal, resp, source, status};
+use crate::fields::{bare_name, given_name, spot};
+use crate::pieces::{argument_in, argument_to_last, behind_word};
+use crate::{Cond, Given, Statement, Word};
+use bts_command::Spot;
+use bts_names::{Name16, NoMemory};
+use std::alloc::Global;
+
+/// LABEL name
+#[tactic(auto, unfolding(crate::specs::Forms::label_line, crate::specs::Pieces::ended))]
+pub fn label_line(line: &[u8]) -> Option<Result<Statement, Word>>
+    ensures { result ≡ ended (label_line line.now) }
+{
+    let rest = behind_word(b"LABEL", line)?;
+    let Some((label, rest)) = bare_name(rest) else {
+        return None;
+    };
+    rest.is_empty()
+        .then_some(label.map(|label| Statement::Label(label)))
+}
+
+/// GOTO name
+#[tactic(auto, unfolding(crate::specs::Forms::goto_line, crate::specs::Pieces::ended))]
+pub fn goto_line(line: &[u8]) -> Option<Result<Statement, Word>>
+    ensures { result ≡ ended (goto_line line.now) }
+{
+    let rest = behind_word(b"GOTO", line)?;
+    let Some((label, rest)) = bare_name(rest) else {
+        return None;
+    };
+    rest.is_empty()
+        .then_some(label.map(|label| Statement::Goto(label)))
+}
+
+fn put_of(
+    container: Result<Name16, Word>,
+    spot: Result<Spot, Word>,
+    given: Result<Given, Word>,
+) -> Result<Statement, Word>
+    ensures { result ≡ made_of_3 Put container spot given }
+{
+    let container = container?;
+    let spot = spot?;
+    let given = given?;
+    Ok(Statement::Put {
+        container,
+        spot,
+        given,
+    })
+}
+
+/// PUT CONTAINER(c) [place] FROM(d)
+#[tactic(auto, unfolding(crate::specs::Forms::put_container, crate::specs::Pieces::ended))]
+pub fn put_container(
+    alloc: Global,
+    line: &[u8],
+) -> Result<Option<Result<Statement, Word>>, NoMemory>
+    ensures { IfOk result (λ r. r ≡ ended (put_container line.now)) }
+{
+    let Some(rest) = behind_word(b"PUT", line) else {
+        return Ok(None);
+    };
+    let Some((container, rest)) = given_name(b"CONTAINER", rest) else {
+        return Ok(None);
+    };
+    let (spot, rest) = spot(rest);
+    let Some((bytes, rest)) = argument_to_last(b"FROM", rest) else {
+        return Ok(None);
+    };
+    if !rest.is_empty() {
+        return Ok(None);
+    }
+    let given = source(alloc, bytes)?;
+    Ok(Some(put_of(container, spot, given)))
+}
