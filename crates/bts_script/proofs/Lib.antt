@@ -1,4 +1,6 @@
+mod Lists
 mod Numbers
 mod Pairs
 mod Rows
 mod Steps
+mod Tables

@@ -1,11 +1,11 @@
 -- Numbers in decimal digits.
-use Rattle.std.proofs.Common.{◌≡◌, ℕ, ◌+◌, ◌-◌, ◌*◌, ◌<◌, ◌≤◌, Bool, true, false, cond, List, [], ◌∷◌, refl, sym, arith, Option, Some, None, lt-ltb}
-use Rattle.std.proofs.lemmas.Bool.{lt-leb, le-leb, leb-true, and_parts, and_from}
-use Rattle.std.specs.Prelude.{nat_le, ◌&&◌, fold}
+use Rattle.std.proofs.Common.{◌≡◌, ℕ, ◌+◌, ◌-◌, ◌*◌, ◌<◌, ◌≤◌, true, [], ◌∷◌, refl, arith, Some, None}
+use Rattle.std.proofs.lemmas.Bool.{lt-leb, le-leb, leb-true, and_parts}
+use Rattle.std.specs.Prelude.{nat_le, fold}
 use Rattle.std.specs.List.{list_all}
 use Rattle.bts_names.specs.Names.{Bytes}
 use Rattle.bts_names.specs.Grammar.{is_between}
-use Rattle.bts_script.specs.Texts.{is_digit, is_decimal, decimal_value, only_if}
+use Rattle.bts_script.specs.Texts.{is_digit, is_decimal, only_if}
 
 from_one : (b : ℕ) → is_between 49 57 b ≡ true → is_digit b ≡ true
 from_one b h =

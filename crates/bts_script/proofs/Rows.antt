@@ -18,7 +18,7 @@ use Rattle.bts_script.specs.Texts.{is_decimal, number_in, number_within, behind_
 use Rattle.bts_script.specs.Arguments.{step_in, steps_in, path_in, text_in, pairs_in, hex_digit, hex_pair, hex_pairs, fill_in}
 use Rattle.bts_script.specs.Blocks.{refused_at, statements, statement_in, block_in, block_of}
 use Rattle.bts_script.specs.Built.{has_form, built, in_process, literal_or_fill, put_in_process, get_in_process}
-use Rattle.bts_script.specs.Forms.{program_line, request_line, end_line, clock_line, settle_line, browse_line, label_line, goto_line, when_line, define_process, acquire_process, acquire_activity, purge_process, define_activity, delete_activity, run, link, check, cancel, reset, suspend, resume, put_container, get_container, delete_container, define_input, define_composite, add_subevent, remove_subevent, delete_event, test_event, retrieve_reattach, retrieve_subevent, define_timer, force_timer, check_timer, delete_timer, plain_return, return_ending, abend, rollback, reads_by, target, spot, either, synchrony, connective, whether, input, due, acquired, condition}
+use Rattle.bts_script.specs.Forms.{program_line, request_line, end_line, clock_line, settle_line, browse_line, label_line, goto_line, when_line, define_process, acquire_process, acquire_activity, purge_process, define_activity, delete_activity, run, link, check, cancel, reset, suspend, resume, put_container, get_container, delete_container, define_input, define_composite, add_subevent, remove_subevent, delete_event, test_event, retrieve_reattach, retrieve_subevent, define_timer, force_timer, check_timer, delete_timer, plain_return, return_ending, abend, rollback, reads_by, target, spot, either, synchrony, connective, whether, input, due, acquired, early_condition, late_condition, condition}
 
 -- one line of many kinds
 lines : map (statement_in (λ text. true) place.Program) (
@@ -70,7 +70,7 @@ lines : map (statement_in (λ text. true) place.Program) (
     Err word.Literal ∷
     Err word.Place ∷
     []
-unfolding up_to ended program_line request_line end_line clock_line settle_line browse_line label_line goto_line when_line define_process acquire_process acquire_activity purge_process define_activity delete_activity run link check cancel reset suspend resume put_container get_container delete_container define_input define_composite add_subevent remove_subevent delete_event test_event retrieve_reattach retrieve_subevent define_timer force_timer check_timer delete_timer plain_return return_ending abend rollback reads_by target spot either synchrony connective whether input due acquired condition in_process literal_or_fill put_in_process get_in_process behind_word argument argument_in argument_to_last at_next_word behind_front cut_at cut_at_last closed_by first_word is_decimal number_in number_within step_in steps_in path_in text_in pairs_in hex_digit hex_pair hex_pairs fill_in is_name_byte days_of_months two_in marked_in civil_in moment_in
+unfolding up_to ended program_line request_line end_line clock_line settle_line browse_line label_line goto_line when_line define_process acquire_process acquire_activity purge_process define_activity delete_activity run link check cancel reset suspend resume put_container get_container delete_container define_input define_composite add_subevent remove_subevent delete_event test_event retrieve_reattach retrieve_subevent define_timer force_timer check_timer delete_timer plain_return return_ending abend rollback reads_by target spot either synchrony connective whether input due acquired early_condition late_condition condition in_process literal_or_fill put_in_process get_in_process behind_word argument argument_in argument_to_last at_next_word behind_front cut_at cut_at_last closed_by first_word is_decimal number_in number_within step_in steps_in path_in text_in pairs_in hex_digit hex_pair hex_pairs fill_in is_name_byte days_of_months two_in marked_in civil_in moment_in
 lines = refl
 
 -- what is let through
@@ -82,7 +82,7 @@ stage : map (has_form built) (
     codes "RETURN" ∷
     codes "RETURN ENDACTIVITY" ∷
     []) ≡ true ∷ true ∷ false ∷ false ∷ true ∷ false ∷ []
-unfolding up_to ended program_line request_line end_line clock_line settle_line browse_line label_line goto_line when_line define_process acquire_process acquire_activity purge_process define_activity delete_activity run link check cancel reset suspend resume put_container get_container delete_container define_input define_composite add_subevent remove_subevent delete_event test_event retrieve_reattach retrieve_subevent define_timer force_timer check_timer delete_timer plain_return return_ending abend rollback reads_by target spot either synchrony connective whether input due acquired condition in_process literal_or_fill put_in_process get_in_process behind_word argument argument_in argument_to_last at_next_word behind_front cut_at cut_at_last closed_by first_word is_decimal number_in number_within step_in steps_in path_in text_in pairs_in hex_digit hex_pair hex_pairs fill_in is_name_byte
+unfolding up_to ended program_line request_line end_line clock_line settle_line browse_line label_line goto_line when_line define_process acquire_process acquire_activity purge_process define_activity delete_activity run link check cancel reset suspend resume put_container get_container delete_container define_input define_composite add_subevent remove_subevent delete_event test_event retrieve_reattach retrieve_subevent define_timer force_timer check_timer delete_timer plain_return return_ending abend rollback reads_by target spot either synchrony connective whether input due acquired early_condition late_condition condition in_process literal_or_fill put_in_process get_in_process behind_word argument argument_in argument_to_last at_next_word behind_front cut_at cut_at_last closed_by first_word is_decimal number_in number_within step_in steps_in path_in text_in pairs_in hex_digit hex_pair hex_pairs fill_in is_name_byte
 stage = refl
 
 -- blocks in which all forms are let through
@@ -112,7 +112,7 @@ bad_blocks : map (block_in (λ text. true) place.Program 1) (
     refused_at 1 word.Place ∷ refused_at 1 word.Place ∷ refused_at 1 word.Name ∷ refused_at 1 word.Number ∷ refused_at 1 word.Literal ∷ refused_at 1 word.Word ∷
     refused_at 1 word.Word ∷ refused_at 1 word.Literal ∷ refused_at 1 word.Literal ∷ refused_at 1 word.Word ∷ refused_at 1 word.Word ∷ refused_at 1 word.Word ∷
     refused_at 1 word.Name ∷ refused_at 2 word.Character ∷ []
-unfolding up_to ended program_line request_line end_line clock_line settle_line browse_line label_line goto_line when_line define_process acquire_process acquire_activity purge_process define_activity delete_activity run link check cancel reset suspend resume put_container get_container delete_container define_input define_composite add_subevent remove_subevent delete_event test_event retrieve_reattach retrieve_subevent define_timer force_timer check_timer delete_timer plain_return return_ending abend rollback reads_by target spot either synchrony connective whether input due acquired condition in_process literal_or_fill put_in_process get_in_process behind_word argument argument_in argument_to_last at_next_word behind_front cut_at cut_at_last closed_by first_word is_decimal number_in number_within step_in steps_in path_in text_in pairs_in hex_digit hex_pair hex_pairs fill_in is_name_byte statements
+unfolding up_to ended program_line request_line end_line clock_line settle_line browse_line label_line goto_line when_line define_process acquire_process acquire_activity purge_process define_activity delete_activity run link check cancel reset suspend resume put_container get_container delete_container define_input define_composite add_subevent remove_subevent delete_event test_event retrieve_reattach retrieve_subevent define_timer force_timer check_timer delete_timer plain_return return_ending abend rollback reads_by target spot either synchrony connective whether input due acquired early_condition late_condition condition in_process literal_or_fill put_in_process get_in_process behind_word argument argument_in argument_to_last at_next_word behind_front cut_at cut_at_last closed_by first_word is_decimal number_in number_within step_in steps_in path_in text_in pairs_in hex_digit hex_pair hex_pairs fill_in is_name_byte statements
 bad_blocks = refl
 
 -- blocks as they are let through now
@@ -129,5 +129,5 @@ blocks_now : map (block_of place.Request 7) (
     []) ≡
     Ok (statement.Command (command.DefineProcess (codes "ORD1") (codes "ROOT")) ∷ statement.Put (codes "MSG") (spot.Of of.AcqProcess) (given.Literal (codes "hello")) ∷ statement.Command (command.GetContainer (codes "MSG") (spot.Of of.AcqProcess)) ∷ statement.Command (command.Return false) ∷ []) ∷
     refused_at 8 word.NotYet ∷ refused_at 7 word.NotYet ∷ refused_at 7 word.NotYet ∷ refused_at 7 word.NotYet ∷ refused_at 7 word.NotYet ∷ refused_at 7 word.Place ∷ refused_at 7 word.NotYet ∷ refused_at 7 word.Literal ∷ []
-unfolding up_to ended program_line request_line end_line clock_line settle_line browse_line label_line goto_line when_line define_process acquire_process acquire_activity purge_process define_activity delete_activity run link check cancel reset suspend resume put_container get_container delete_container define_input define_composite add_subevent remove_subevent delete_event test_event retrieve_reattach retrieve_subevent define_timer force_timer check_timer delete_timer plain_return return_ending abend rollback reads_by target spot either synchrony connective whether input due acquired condition in_process literal_or_fill put_in_process get_in_process behind_word argument argument_in argument_to_last at_next_word behind_front cut_at cut_at_last closed_by first_word is_decimal number_in number_within step_in steps_in path_in text_in pairs_in hex_digit hex_pair hex_pairs fill_in is_name_byte statements
+unfolding up_to ended program_line request_line end_line clock_line settle_line browse_line label_line goto_line when_line define_process acquire_process acquire_activity purge_process define_activity delete_activity run link check cancel reset suspend resume put_container get_container delete_container define_input define_composite add_subevent remove_subevent delete_event test_event retrieve_reattach retrieve_subevent define_timer force_timer check_timer delete_timer plain_return return_ending abend rollback reads_by target spot either synchrony connective whether input due acquired early_condition late_condition condition in_process literal_or_fill put_in_process get_in_process behind_word argument argument_in argument_to_last at_next_word behind_front cut_at cut_at_last closed_by first_word is_decimal number_in number_within step_in steps_in path_in text_in pairs_in hex_digit hex_pair hex_pairs fill_in is_name_byte statements
 blocks_now = refl

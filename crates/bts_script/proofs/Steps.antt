@@ -1,8 +1,8 @@
 -- The numbers of a path, one after the other.
-use Rattle.std.proofs.Common.{◌≡◌, ℕ, suc, ◌+◌, ◌-◌, ◌≤◌, List, [], ◌∷◌, ◌++◌, length, refl, subst, sym, ◌∙◌, arith, Option, Some, None}
+use Rattle.std.proofs.Common.{◌≡◌, ℕ, suc, ◌-◌, ◌≤◌, List, [], ◌∷◌, ◌++◌, refl, subst, sym, ◌∙◌, arith, Option, Some, None}
 use Rattle.std.specs.Option.{option_map}
 use Rattle.bts_names.specs.Names.{Bytes}
-use Rattle.bts_script.specs.Texts.{◌>>=◌, cut_at}
+use Rattle.bts_script.specs.Texts.{cut_at}
 use Rattle.bts_script.specs.Arguments.{step_in, steps_in, step_then, one_step}
 use Rattle.bts_script.proofs.Pairs.{with_more}
 

@@ -1,5 +1,5 @@
 -- The arguments of lines, each with the reason for which it is refused.
-use Rattle.std.specs.Prelude.{ℕ, zero, suc, Bool, cond, ◌&&◌, ◌||◌, ◌+◌, ◌-◌, ◌*◌, nat_eq, List, [], ◌∷◌, codes, length, Option, Some, None, option_map, Result, Ok, Err}
+use Rattle.std.specs.Prelude.{ℕ, zero, suc, Bool, cond, ◌||◌, ◌+◌, ◌-◌, ◌*◌, nat_eq, [], ◌∷◌, codes, length, Option, Some, None, option_map, Result, Ok, Err}
 use Rattle.std.specs.Str.{bytes_eq}
 use Rattle.bts_names.specs.Names.{Bytes, Name, ActivityPath}
 use Rattle.bts_names.specs.Names.{initial_name}

@@ -10,9 +10,7 @@ use Rattle.bts_command.specs.declared.command.Target.TheVariants as targets
 use Rattle.bts_command.specs.declared.command.Spot.{Spot}
 use Rattle.bts_command.specs.declared.command.Spot.TheVariants as spots
 use Rattle.bts_script.specs.declared.statement.Given.{Given}
-use Rattle.bts_script.specs.declared.statement.Given.TheVariants.{Last}
 use Rattle.bts_script.specs.declared.statement.Statement.TheVariants as statement
-use Rattle.bts_script.specs.declared.line.Line.TheVariants as line
 use Rattle.bts_script.specs.Pieces.{Piece, says, given, argument_to_last, ◌▸◌, ◌▹◌}
 use Rattle.bts_script.specs.Arguments.{name, source}
 use Rattle.bts_script.specs.Texts.{without_spaces}

@@ -1,5 +1,5 @@
 -- The forms of lines: one entry for each row of the tables.
-use Rattle.std.specs.Prelude.{Bool, true, false, List, [], ◌∷◌, ◌++◌, codes, Option, Result, Ok, Err, option_map}
+use Rattle.std.specs.Prelude.{Bool, true, false, List, [], ◌∷◌, ◌++◌, codes, Option, Result, option_map}
 use Rattle.bts_names.specs.Names.{Bytes, Name}
 use Rattle.bts_command.specs.declared.command.Command.{Command}
 use Rattle.bts_command.specs.declared.command.Command.TheVariants as command
@@ -57,8 +57,14 @@ unfoldable pub acquired : Piece Target
 acquired = says targets.AcqProcess ▸ codes "ACQPROCESS" or says targets.AcqActivity ▸ codes "ACQACTIVITY"
 
 -- a condition
+unfoldable pub early_condition : Piece Cond
+early_condition = says when.Resp ▹ given (codes "RESP") resp or says when.Event ▹ given (codes "EVENT") event_name or says when.Status ▹ given (codes "STATUS") status
+
+unfoldable pub late_condition : Piece Cond
+late_condition = says when.Gave ▹ given_to_last (codes "DATA") literal or says when.Fired ▸ codes "FIRED"
+
 unfoldable pub condition : Piece Cond
-condition = says when.Resp ▹ given (codes "RESP") resp or says when.Event ▹ given (codes "EVENT") event_name or says when.Status ▹ given (codes "STATUS") status or says when.Gave ▹ given_to_last (codes "DATA") literal or says when.Fired ▸ codes "FIRED"
+condition = early_condition or late_condition
 
 -- ---- the lines of a session
 
@@ -198,6 +204,9 @@ reads_by f p line = option_map (result_of f) (ended (p line))
 abbrev pub command_of : Command → Line
 command_of c = line.Statement (statement.Command c)
 
+abbrev pub statement_of : Statement → Line
+statement_of s = line.Statement s
+
 abbrev pub item : Piece Line → Form
 item p = record { belongs = setting.Outside; reads = reads_by (λ x. x) p }
 
@@ -205,7 +214,7 @@ abbrev pub end_of_block : Piece Line → Form
 end_of_block p = record { belongs = setting.Closing; reads = reads_by (λ x. x) p }
 
 abbrev pub other : Piece Statement → Form
-other p = record { belongs = setting.InBlocks; reads = reads_by line.Statement p }
+other p = record { belongs = setting.InBlocks; reads = reads_by statement_of p }
 
 abbrev pub call : Piece Command → Form
 call p = record { belongs = setting.InBlocks; reads = reads_by command_of p }
@@ -261,10 +270,14 @@ container_forms =
     call delete_container ∷
     []
 
-abbrev pub event_forms : List Form
-event_forms =
+abbrev pub early_event_forms : List Form
+early_event_forms =
     call define_input ∷
     call define_composite ∷
+    []
+
+abbrev pub late_event_forms : List Form
+late_event_forms =
     call add_subevent ∷
     call remove_subevent ∷
     call delete_event ∷
@@ -291,4 +304,4 @@ ending_forms =
 
 -- all forms
 abbrev pub forms : List Form
-forms = session_forms ++ script_forms ++ process_forms ++ activity_forms ++ container_forms ++ event_forms ++ timer_forms ++ ending_forms
+forms = session_forms ++ script_forms ++ process_forms ++ activity_forms ++ container_forms ++ early_event_forms ++ late_event_forms ++ timer_forms ++ ending_forms

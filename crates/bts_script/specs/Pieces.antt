@@ -67,13 +67,30 @@ abbrev pub maybe : {A : Type 0} → Piece A → Piece (Option A)
 maybe p line = elim (p line) [ None ↦ Some (Ok None, line) | Some x ↦ Some (result_of Some x.0, x.1) ]
 
 -- a piece so many times or fewer
+abbrev pub in_front : {A : Type 0} → Result A Word → Said (List A) → Said (List A)
+in_front x None = None
+in_front x (Some others) = Some (applied (result_of (λ y ys. y ∷ ys) x) others.0, others.1)
+
+abbrev pub and_then : {A : Type 0} → Piece (List A) → Bytes → Said A → Said (List A)
+and_then others line None = Some (Ok [], line)
+and_then others line (Some x) = in_front x.0 (others x.1)
+
 unfoldable pub up_to : {A : Type 0} → ℕ → Piece A → Piece (List A)
 up_to zero p line = Some (Ok [], line)
-up_to (suc n) p line =
-    elim (p line) [
-      | None ↦ Some (Ok [], line)
-      | Some x ↦ elim (up_to n p x.1) [ None ↦ None | Some xs ↦ Some (applied (result_of (λ y ys. y ∷ ys) x.0) xs.0, xs.1) ]
-    ]
+up_to (suc n) p line = and_then (up_to n p) line (p line)
+
+-- two lists, one behind the other, of which each may be refused
+abbrev pub alone : {A : Type 0} → Result A Word → Result (List A) Word
+alone x = result_of (λ y. y ∷ []) x
+
+abbrev pub joined : {A : Type 0} → Result (List A) Word → Result (List A) Word → Result (List A) Word
+joined (Err why) ys = Err why
+joined (Ok xs) (Err why) = Err why
+joined (Ok xs) (Ok ys) = Ok (xs ++ ys)
+
+-- what is read behind what was read before
+abbrev pub read_behind : {A : Type 0} → Result (List A) Word → Said (List A) → Said (List A)
+read_behind said others = option_map (λ y. (joined said y.0, y.1)) others
 
 -- a word that is itself the argument
 abbrev pub bare : {A : Type 0} → (Bytes → Result A Word) → Piece A

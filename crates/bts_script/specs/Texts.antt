@@ -1,5 +1,5 @@
 -- Words, numbers and lines in texts.
-use Rattle.std.specs.Prelude.{ℕ, Bool, true, false, cond, ◌&&◌, ◌+◌, ◌-◌, ◌*◌, nat_eq, nat_le, List, [], ◌∷◌, fold, take, drop, length, reverse, position, ◌==◌, Option, Some, None, option_map}
+use Rattle.std.specs.Prelude.{ℕ, Bool, false, cond, ◌&&◌, ◌+◌, ◌-◌, ◌*◌, nat_eq, nat_le, [], ◌∷◌, fold, take, drop, length, reverse, position, ◌==◌, Option, Some, None}
 use Rattle.std.specs.Option.{option_and_then}
 use Rattle.std.specs.List.{list_all}
 use Rattle.std.specs.Str.{bytes_eq}
