@@ -20,3 +20,6 @@ mod timer_lines;
 pub use line::{Line, Place, ScriptError, Setting, Word};
 pub use reading::read_line;
 pub use statement::{Cond, Given, Script, Statement};
+
+#[cfg(test)]
+mod tests;
