@@ -1,5 +1,5 @@
 // Why a call of a pool did not do what it was asked.
-use bts_names::{NoMemory, Reason};
+use bts_names::Reason;
 use thiserror::Error;
 
 /// A call of a pool that changed nothing.
@@ -9,10 +9,4 @@ pub enum PoolError {
     Refused(Reason),
     #[error("no memory")]
     NoMemory,
-}
-
-impl From<NoMemory> for PoolError {
-    fn from(_: NoMemory) -> Self {
-        PoolError::NoMemory
-    }
 }

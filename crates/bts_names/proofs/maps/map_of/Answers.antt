@@ -1,9 +1,12 @@
-use Rattle.std.proofs.Common.{sym, ◌∙◌}
-use Rattle.bts_names.proofs.Made.{made_step, ok_from}
+use Rattle.std.proofs.Common.{◌∙◌, subst}
+use Rattle.std.proofs.IntoIterSteps.{All-taken}
+use Rattle.std.proofs.lemmas.Result.{IfOk-at_ok}
+use Rattle.std.specs.BTreeMap.{IsFromIterResult}
+use Rattle.bts_names.proofs.Made.{entries_of_all}
 use Rattle.bts_names.proofs.maps.map_of.Goals as goal
 
-pub loop-key-preserved : goal.loop-key-preserved
-loop-key-preserved g c =
-    made_step g.K.Ord.cmp c.args.entries.items c.loop-key.entries.items c.pop.new.self.items c.loop-key.map.entries c.insert.new.self.entries c.in-Some.key c.in-Some.value
-    c.requires c.loop-key.invariant c.in-Some.ensures.items
-    (ok_from c.insert.result c.insert.ensures.entries (sym c.is_err.ensures.value ∙ c.if-is_err.false))
+pub returns-in-Ok : goal.returns-in-Ok
+returns-in-Ok g c =
+    let h = IfOk-at_ok _ c.in-Ok.is c.from_iter.ensures.ran in
+    entries_of_all g.met.K.Ord.total c.requires.exact c.args.entries.items c.in-Ok.map c.requires.rising
+    (subst (λ l. IsFromIterResult g.K.Ord.cmp l c.in-Ok.map) (All-taken h.0 h.1 ((h.3.2 tt).0, (h.3.0, h.3.1, (h.3.2 tt).1)) ∙ h.2.0) h.4)

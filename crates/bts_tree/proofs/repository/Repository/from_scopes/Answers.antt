@@ -3,12 +3,16 @@ use Rattle.std.specs.List.Sorted.{IsStrictlySortedBy}
 use Rattle.std.specs.Map.{keys_of}
 use Rattle.std.specs.Prelude.{map}
 use Rattle.bts_names.specs.Keys.{key_cmp}
+use Rattle.bts_names.proofs.Sameness.{keys_exact}
 use Rattle.bts_tree.proofs.Slots.{keys_of_held, stored_made}
 use Rattle.bts_tree.proofs.repository.Repository.from_scopes.Goals as goal
 use Rattle.bts_tree.specs.Keeping as keeping
 
-pub map_of-requires : goal.map_of-requires
-map_of-requires c =
+pub map_of-requires-clause-exact : goal.map_of-requires-clause-exact
+map_of-requires-clause-exact c = keys_exact
+
+pub map_of-requires-clause-rising : goal.map_of-requires-clause-rising
+map_of-requires-clause-rising c =
     let slots : c.in_ok-slots.slots.items ≡ keeping.slots_of (map (λ h. h.process) c.args.scopes.items) = search rules in
     subst (IsStrictlySortedBy key_cmp) (sym (ap keys_of slots ∙ keys_of_held c.args.scopes.items)) c.requires
 
