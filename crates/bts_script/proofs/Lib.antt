@@ -1,6 +1,3 @@
-mod Lists
-mod Numbers
-mod Pairs
-mod Rows
-mod Steps
+mod Ends
+mod FirstLines
 mod Tables

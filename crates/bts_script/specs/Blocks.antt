@@ -3,20 +3,20 @@ use Rattle.std.specs.Prelude.{◌≡◌, ℕ, Bool, true, false, not, nat_eq, Li
 use Rattle.std.specs.List.{list_all, list_any, enumerate_from}
 use Rattle.bts_names.specs.Names.{Bytes, Name, same}
 use Rattle.bts_names.specs.Grammar.{is_between}
-use Rattle.bts_script.specs.Texts.{without_spaces}
-use Rattle.bts_script.specs.declared.statement.Statement.{Statement}
-use Rattle.bts_script.specs.declared.statement.Statement.TheVariants as statement
-use Rattle.bts_script.specs.declared.line.Line.{Line}
-use Rattle.bts_script.specs.declared.line.Line.TheVariants as line
-use Rattle.bts_script.specs.declared.line.Word.{Word}
-use Rattle.bts_script.specs.declared.line.Word.TheVariants as word
-use Rattle.bts_script.specs.declared.line.Place.{Place}
-use Rattle.bts_script.specs.declared.line.Place.TheVariants as place
-use Rattle.bts_script.specs.declared.line.ScriptError.{ScriptError}
-use Rattle.bts_script.specs.declared.line.ScriptError.TheVariants as error
-use Rattle.bts_script.specs.declared.line.Setting.{Setting}
-use Rattle.bts_script.specs.declared.line.Setting.TheVariants as setting
-use Rattle.bts_script.specs.Forms.{Form, forms}
+use Rattle.bts_forms.specs.Texts.{without_spaces}
+use Rattle.bts_forms.specs.declared.statement.Statement.{Statement}
+use Rattle.bts_forms.specs.declared.statement.Statement.TheVariants as statement
+use Rattle.bts_forms.specs.declared.line.Line.{Line}
+use Rattle.bts_forms.specs.declared.line.Line.TheVariants as line
+use Rattle.bts_forms.specs.declared.line.Word.{Word}
+use Rattle.bts_forms.specs.declared.line.Word.TheVariants as word
+use Rattle.bts_forms.specs.declared.line.Place.{Place}
+use Rattle.bts_forms.specs.declared.line.Place.TheVariants as place
+use Rattle.bts_forms.specs.declared.line.ScriptError.{ScriptError}
+use Rattle.bts_forms.specs.declared.line.ScriptError.TheVariants as error
+use Rattle.bts_forms.specs.declared.line.Setting.{Setting}
+use Rattle.bts_forms.specs.declared.line.Setting.TheVariants as setting
+use Rattle.bts_forms.specs.Forms.{Saying, forms, form_of}
 use Rattle.bts_script.specs.Built.{is_built}
 
 -- ---- one line
@@ -28,18 +28,6 @@ begins_remark (b ∷ bs) = nat_eq b 42
 
 abbrev pub is_skipped : Bytes → Bool
 is_skipped text = begins_remark (without_spaces text)
-
--- the form that a line has, and what it says
-abbrev pub Saying : Type 0
-Saying = Setting × Result Line Word
-
-abbrev pub or_next : Setting → Option Saying → Option (Result Line Word) → Option Saying
-or_next at others None = others
-or_next at others (Some x) = Some (at, x)
-
-abbrev pub form_of : List Form → Bytes → Option Saying
-form_of [] line = None
-form_of (f ∷ fs) line = or_next f.belongs (form_of fs line) (f.reads line)
 
 -- whether a form belongs in such a block, or outside of one
 abbrev pub belongs_at : Setting → Option Place → Bool
@@ -69,6 +57,14 @@ is_printable b = is_between 32 126 b
 -- what a line says in such a block, or outside of one, or why it is refused
 abbrev pub line_in : Through → Option Place → Bytes → Result Line Word
 line_in through at text = stop_where (not (list_all is_printable text)) word.Character (said_at through at text (form_of forms (without_spaces text)))
+
+-- whether a line is the END of a block
+abbrev pub is_end : Result Line Word → Bool
+is_end (Ok line.End) = true
+is_end _ = false
+
+abbrev pub ends_block : Through → Bytes → Bool
+ends_block through text = is_end (line_in through (Some place.Program) text)
 
 -- ---- the lines of a block
 

@@ -3,18 +3,18 @@ use Rattle.std.specs.Prelude.{Bool, cond, List, [], ◌∷◌, codes, Option, So
 use Rattle.std.specs.List.{list_any}
 use Rattle.std.specs.Str.{bytes_eq}
 use Rattle.bts_command.specs.declared.command.Command.{Command}
-use Rattle.bts_script.specs.declared.statement.Statement.{Statement}
+use Rattle.bts_forms.specs.declared.statement.Statement.{Statement}
 use Rattle.bts_names.specs.Names.{Bytes}
 use Rattle.bts_command.specs.declared.command.Command.TheVariants as command
 use Rattle.bts_command.specs.declared.command.Target.TheVariants as targets
 use Rattle.bts_command.specs.declared.command.Spot.{Spot}
 use Rattle.bts_command.specs.declared.command.Spot.TheVariants as spots
-use Rattle.bts_script.specs.declared.statement.Given.{Given}
-use Rattle.bts_script.specs.declared.statement.Statement.TheVariants as statement
-use Rattle.bts_script.specs.Pieces.{Piece, says, given, argument_to_last, ◌▸◌, ◌▹◌}
-use Rattle.bts_script.specs.Arguments.{name, source}
-use Rattle.bts_script.specs.Texts.{without_spaces}
-use Rattle.bts_script.specs.Forms.{Form, request_line, end_line, define_process, plain_return, call, other, item, end_of_block}
+use Rattle.bts_forms.specs.declared.statement.Given.{Given}
+use Rattle.bts_forms.specs.declared.statement.Statement.TheVariants as statement
+use Rattle.bts_forms.specs.Pieces.{Piece, says, given, argument_to_last, ◌▸◌, ◌▹◌}
+use Rattle.bts_forms.specs.Arguments.{name, source}
+use Rattle.bts_forms.specs.Texts.{without_spaces}
+use Rattle.bts_forms.specs.Forms.{Form, request_line, end_line, define_process, plain_return, call, other, item, end_of_block}
 
 -- whether a line has one of these forms
 abbrev pub has_form : List Form → Bytes → Bool

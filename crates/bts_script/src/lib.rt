@@ -1,25 +1,12 @@
-//! Statements of scripts, and the lines that say them.
+//! What lines say where they stand, and blocks of lines as scripts.
 #![tactic(auto)]
 
-mod activity_lines;
-mod arguments;
-mod container_lines;
-mod ending_lines;
-mod event_lines;
-mod fields;
-mod forms;
-mod line;
-mod pieces;
-mod process_lines;
+mod lines;
 mod reading;
-mod script_lines;
-mod session_lines;
-mod statement;
-mod timer_lines;
 
-pub use line::{Line, Place, ScriptError, Setting, Word};
-pub use reading::read_line;
-pub use statement::{Cond, Given, Script, Statement};
+pub use bts_forms::{Cond, Given, Line, Place, Script, ScriptError, Setting, Statement, Word};
+pub use lines::next_line;
+pub use reading::{ends_block, is_skipped, read_line};
 
 #[cfg(test)]
 mod tests;

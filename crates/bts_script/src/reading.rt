@@ -1,16 +1,14 @@
 // What a line says where it stands.
 ghost use Rattle.std.specs.Prelude.{◌≡◌, IfOk, is_some};
 ghost use Rattle.std.specs.List.{list_all};
-ghost use Rattle.bts_script.specs.Pieces.{ended};
+ghost use Rattle.bts_forms.specs.Pieces.{ended};
 ghost use Rattle.bts_script.specs.Built.{is_built, has_form, built, put_in_process, get_in_process};
-ghost use Rattle.bts_script.specs.Blocks.{line_in, belongs_at, is_printable};
+ghost use Rattle.bts_script.specs.Blocks.{line_in, belongs_at, is_printable, is_skipped, ends_block};
 
-use crate::ending_lines::plain_return;
-use crate::forms::form_of;
-use crate::pieces::{argument_in, argument_to_last, behind_word, without_spaces};
-use crate::process_lines::define_process;
-use crate::session_lines::{end_line, request_line};
-use crate::{Line, Place, Setting, Word};
+use bts_forms::{
+    Line, Place, Setting, Word, argument_in, argument_to_last, behind_word, define_process,
+    end_line, form_of, plain_return, request_line, without_spaces,
+};
 use bts_names::NoMemory;
 use std::alloc::Global;
 
@@ -43,7 +41,7 @@ fn belongs_at(setting: Setting, at: Option<Place>) -> bool
 }
 
 /// PUT CONTAINER(c) ACQPROCESS FROM(d), but for LAST
-#[tactic(auto, unfolding(crate::specs::Built::put_in_process, crate::specs::Built::in_process, crate::specs::Built::literal_or_fill, crate::specs::Pieces::ended))]
+#[tactic(auto, unfolding(crate::specs::Built::put_in_process, crate::specs::Built::in_process, crate::specs::Built::literal_or_fill, bts_forms::specs::Pieces::ended))]
 fn is_put_in_process(line: &[u8]) -> bool
     ensures { result ≡ is_some (ended (put_in_process line.now)) }
 {
@@ -63,7 +61,7 @@ fn is_put_in_process(line: &[u8]) -> bool
 }
 
 /// GET CONTAINER(c) ACQPROCESS
-#[tactic(auto, unfolding(crate::specs::Built::get_in_process, crate::specs::Built::in_process, crate::specs::Pieces::ended))]
+#[tactic(auto, unfolding(crate::specs::Built::get_in_process, crate::specs::Built::in_process, bts_forms::specs::Pieces::ended))]
 fn is_get_in_process(line: &[u8]) -> bool
     ensures { result ≡ is_some (ended (get_in_process line.now)) }
 {
@@ -115,4 +113,19 @@ pub fn read_line(
         return Ok(Err(Word::Place));
     }
     Ok(said)
+}
+
+/// Whether a line says nothing and is never refused: it is empty, has spaces alone, or is a remark.
+pub fn is_skipped(text: &[u8]) -> bool
+    ensures { result ≡ is_skipped text.now }
+{
+    matches!(without_spaces(text), [] | [b'*', ..])
+}
+
+/// Whether a line ends a block.
+#[tactic(auto, using(crate::proofs::Ends::ends_where))]
+pub fn ends_block(text: &[u8]) -> bool
+    ensures { result ≡ ends_block is_built text.now }
+{
+    are_printable(text) && end_line(without_spaces(text)).is_some()
 }

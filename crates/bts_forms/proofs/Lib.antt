@@ -1,0 +1,5 @@
+mod Lists
+mod Numbers
+mod Pairs
+mod Steps
+pub mod Tables
