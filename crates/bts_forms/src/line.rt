@@ -1,6 +1,9 @@
 // What a line says, and why one is refused.
+ghost use Rattle.std.specs.Prelude.{◌≡◌};
+ghost use Rattle.bts_forms.specs.declared.line.ScriptError.TheVariants as error;
+
 use crate::Statement;
-use bts_names::{Key, Mode, Moment, ProcName, ProcType, ProgName, Status};
+use bts_names::{Key, Mode, Moment, NoMemory, ProcName, ProcType, ProgName, Status};
 use thiserror::Error;
 
 /// What a line says.
@@ -79,4 +82,12 @@ pub enum ScriptError {
     Syntax { line: u32, reason: Word },
     #[error("no memory")]
     NoMemory,
+}
+
+impl From<NoMemory> for ScriptError {
+    ghost from_gives = { λ _ e. e ≡ error.NoMemory };
+
+    fn from(_: NoMemory) -> Self {
+        ScriptError::NoMemory
+    }
 }

@@ -1,3 +1,5 @@
 mod Ends
 mod FirstLines
+mod Labels
+mod Statements
 mod Tables

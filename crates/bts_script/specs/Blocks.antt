@@ -1,6 +1,6 @@
 -- What a line says, and what the lines of a block say.
 use Rattle.std.specs.Prelude.{◌≡◌, ℕ, Bool, true, false, not, nat_eq, List, [], ◌∷◌, ◌++◌, filter, filter_map, Option, Some, None, Result, Ok, Err}
-use Rattle.std.specs.List.{list_all, list_any, enumerate_from}
+use Rattle.std.specs.List.{list_all, list_any, enumerate_from, cons_option}
 use Rattle.bts_names.specs.Names.{Bytes, Name, same}
 use Rattle.bts_names.specs.Grammar.{is_between}
 use Rattle.bts_forms.specs.Texts.{without_spaces}
@@ -121,8 +121,7 @@ abbrev pub labels_of : Through → Place → List Numbered → List Name
 labels_of through p lines = filter_map (λ l. label_said (statement_in through p l.1)) lines
 
 abbrev pub labels_by : Statement → List Name
-labels_by (statement.Label l) = l ∷ []
-labels_by _ = []
+labels_by s = cons_option (label_of s) []
 
 -- a statement behind these labels, in a block with those
 abbrev pub with_labels : List Name → List Name → Result Statement Word → Result Statement Word
@@ -134,13 +133,13 @@ abbrev pub put_first : Statement → Result (List Statement) Refusal → Result 
 put_first s (Err r) = Err r
 put_first s (Ok ss) = Ok (s ∷ ss)
 
+abbrev pub then_others : ℕ → Result Statement Word → (Statement → Result (List Statement) Refusal) → Result (List Statement) Refusal
+then_others n (Err why) others = Err (record { line = n; reason = why })
+then_others n (Ok s) others = put_first s (others s)
+
 unfoldable pub statements : Through → Place → List Name → List Name → List Numbered → Result (List Statement) Refusal
 statements through p before all [] = Ok []
-statements through p before all (l ∷ ls) =
-    elim (with_labels before all (statement_in through p l.1)) [
-      | Err why ↦ Err (record { line = l.0; reason = why })
-      | Ok s ↦ put_first s (statements through p (before ++ labels_by s) all ls)
-    ]
+statements through p before all (l ∷ ls) = then_others l.0 (with_labels before all (statement_in through p l.1)) (λ s. statements through p (before ++ labels_by s) all ls)
 
 -- the script of a block whose first line has this number
 abbrev pub script_of : Through → Place → List Numbered → Result (List Statement) Refusal
