@@ -3,11 +3,13 @@
 
 mod blocks;
 mod lines;
+mod programs;
 mod reading;
 
 pub use blocks::read_block;
 pub use bts_forms::{Cond, Given, Line, Place, Script, ScriptError, Setting, Statement, Word};
 pub use lines::next_line;
+pub use programs::Programs;
 pub use reading::{ends_block, is_skipped, read_line};
 
 #[cfg(test)]
