@@ -6,3 +6,4 @@ pub mod Families
 pub mod Processes
 pub mod Repositories
 pub mod Sound
+pub mod Reports
