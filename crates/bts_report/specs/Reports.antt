@@ -18,23 +18,29 @@ abbrev pub spaced : List Bytes → Bytes
 spaced words = flat_map (λ word. 32 ∷ word) words
 
 -- words as a line, and the same behind two spaces
-unfoldable pub line : List Bytes → Bytes
+abbrev pub line : List Bytes → Bytes
 line words = divided words ++ 10 ∷ []
 
 abbrev pub inner_line : List Bytes → Bytes
 inner_line words = 32 ∷ 32 ∷ line words
 
-abbrev pub call_line : Call → Bytes
+unfoldable pub call_line : Call → Bytes
 call_line c = inner_line (command_words c.command ++ reply_words c.reply)
 
 -- the unit at a place, from 1
-abbrev pub unit_line : ℕ → Ended → Bytes
+unfoldable pub unit_line : ℕ → Ended → Bytes
 unit_line n e = line (decimal n ∷ unit_words e.unit ++ moment_text e.moment ∷ end_words e.end)
+
+-- a row that a unit found, and one of a list
+unfoldable pub row_line : Row → Bytes
+row_line r = inner_line (row_words r)
+
+unfoldable pub list_line : Row → Bytes
+list_line r = line (row_words r)
 
 -- a line for the unit, and behind it one for each call and row
 unfoldable pub unit_text : ℕ × Ended → Bytes
-unit_text x =
-    unit_line x.0 x.1 ++ flat_map call_line x.1.calls ++ flat_map (λ r. inner_line (row_words r)) x.1.rows
+unit_text x = unit_line x.0 x.1 ++ flat_map call_line x.1.calls ++ flat_map row_line x.1.rows
 
 -- the units of a history at their places
 abbrev pub report : List Ended → Bytes
@@ -42,4 +48,4 @@ report history = flat_map unit_text (enumerate_from 1 history)
 
 -- a line for each row
 abbrev pub list_text : List Row → Bytes
-list_text rows = flat_map (λ r. line (row_words r)) rows
+list_text rows = flat_map list_line rows

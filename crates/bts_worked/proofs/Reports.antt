@@ -28,7 +28,7 @@ use Rattle.bts_command.specs.declared.ended.UnitKind.{UnitKind}
 use Rattle.bts_command.specs.declared.ended.UnitKind.TheVariants as unit
 use Rattle.bts_timer.specs.Calendar.{civil_of, year_of, month_within, days_of_months}
 use Rattle.bts_timer.specs.Moments.{civil_text}
-use Rattle.bts_report.specs.Reports.{call_line, line, unit_text, report, list_text}
+use Rattle.bts_report.specs.Reports.{call_line, row_line, list_line, unit_line, unit_text, report, list_text}
 use Rattle.bts_worked.proofs.Tables.{ok, event, normal, refusal}
 
 -- ---- the form of an example
@@ -79,7 +79,7 @@ first_request : report (
     codes "  DEFINE PROCESS PROCESSERR Taken" ∷
     codes "  PUT CONTAINER(MSG) LENGERR Long" ∷
     codes "  RETURN NORMAL" ∷ [])
-unfolding digits line unit_text civil_text civil_of year_of month_within days_of_months
+unfolding digits unit_line call_line unit_text civil_text civil_of year_of month_within days_of_months
 first_request = refl
 
 -- ---- an order
@@ -163,7 +163,7 @@ order_report : report order ≡ text (
     codes "  CHECK ACTIVITY(SHIP) NORMAL COMPLETE NORMAL NOTSUSPENDED -" ∷
     codes "  DELETE EVENT(BOTH) NORMAL" ∷
     codes "  RETURN NORMAL COMPLETE" ∷ [])
-unfolding digits line unit_text civil_text civil_of year_of month_within days_of_months
+unfolding digits unit_line call_line unit_text civil_text civil_of year_of month_within days_of_months
 order_report = refl
 
 abbrev of_order : ActivityPath → Name → Name → Name → Row
@@ -191,7 +191,7 @@ order_list : list_text rows ≡ text (
     codes "ORDERS P6 1 / DFHROOT COMPLETE NORMAL NOTSUSPENDED 0 ORD1 ORDER" ∷
     codes "ORDERS P6 1 /1 BILL COMPLETE NORMAL NOTSUSPENDED 0 BIL1 LEAF" ∷
     codes "ORDERS P6 1 /2 SHIP COMPLETE NORMAL NOTSUSPENDED 0 SHP1 LEAF" ∷ [])
-unfolding digits line
+unfolding digits list_line
 order_list = refl
 
 -- the same list in a browse
@@ -203,7 +203,7 @@ order_browse : report_behind 7 (
     codes "  ORDERS P6 1 / DFHROOT COMPLETE NORMAL NOTSUSPENDED 0 ORD1 ORDER" ∷
     codes "  ORDERS P6 1 /1 BILL COMPLETE NORMAL NOTSUSPENDED 0 BIL1 LEAF" ∷
     codes "  ORDERS P6 1 /2 SHIP COMPLETE NORMAL NOTSUSPENDED 0 SHP1 LEAF" ∷ [])
-unfolding digits line unit_text civil_text civil_of year_of month_within days_of_months
+unfolding digits unit_line row_line unit_text civil_text civil_of year_of month_within days_of_months
 order_browse = refl
 
 -- a row of another process, suspended, with entries, deep in its tree
@@ -220,7 +220,7 @@ deep_row : list_text (record {
   program = codes "WAITER";
 } ∷ []) ≡ text (
     codes "ORDERS P15 12 /4294967295/10 A DORMANT INCOMPLETE SUSPENDED 307 T1 WAITER" ∷ [])
-unfolding digits line
+unfolding digits list_line
 deep_row = refl
 
 -- ---- sub-events, timers and moments
@@ -245,7 +245,7 @@ subevents : report_behind 4 (
     codes "  RETRIEVE SUBEVENT(EITHER) NORMAL I1 INPUT" ∷
     codes "  RETRIEVE SUBEVENT(EITHER) END Empty" ∷
     codes "  RETURN NORMAL DORMANT" ∷ [])
-unfolding digits line unit_text civil_text civil_of year_of month_within days_of_months
+unfolding digits unit_line call_line unit_text civil_text civil_of year_of month_within days_of_months
 subevents = refl
 
 abbrev p13 : Key
@@ -277,14 +277,14 @@ timers : report_behind 3 (
     codes "  DELETE TIMER(T2) NORMAL" ∷
     codes "  RETURN NORMAL COMPLETE" ∷
     codes "7 SETTLE 1970-01-01T00:01:00 COMMIT" ∷ [])
-unfolding digits line unit_text civil_text civil_of year_of month_within days_of_months
+unfolding digits unit_line call_line unit_text civil_text civil_of year_of month_within days_of_months
 timers = refl
 
 -- the last moment, and a unit of two digits
 last_moment : report_behind 9 (ended_at 253402300799 (unit.Expiry p13 (3 ∷ 12 ∷ []) t1) Commit ((command.DefineTimer t1 None (After 1) gives refusal resp.Invreq reason.Range) ∷ []) ∷ []) ≡ text (
     codes "10 EXPIRY ORDERS P13 /3/12 T1 9999-12-31T23:59:59 COMMIT" ∷
     codes "  DEFINE TIMER(T1) INVREQ Range" ∷ [])
-unfolding digits line unit_text civil_text civil_of year_of month_within days_of_months
+unfolding digits unit_line call_line unit_text civil_text civil_of year_of month_within days_of_months
 last_moment = refl
 
 -- ---- rollback and abends
@@ -315,7 +315,7 @@ no_retrieval : report_behind 1 (
     codes "  GET CONTAINER(X) CONTAINERERR Missing" ∷
     codes "  CHECK ACQACTIVITY NORMAL COMPLETE ABEND NOTSUSPENDED NORT" ∷
     codes "  RETURN NORMAL" ∷ [])
-unfolding digits line unit_text civil_text civil_of year_of month_within days_of_months
+unfolding digits unit_line call_line unit_text civil_text civil_of year_of month_within days_of_months
 no_retrieval = refl
 
 -- a rollback, an activity whose program is not there, and one that never stops
@@ -331,7 +331,7 @@ stopped : report (
     codes "2 ACTIVATION ORDERS P19 / 1970-01-01T00:00:00 ABEND NOPG" ∷
     codes "  ABEND(NOPG) NORMAL" ∷
     codes "3 ACTIVATION ORDERS P19 / 1970-01-01T00:00:00 ABEND STEP" ∷ [])
-unfolding digits line unit_text civil_text civil_of year_of month_within days_of_months
+unfolding digits unit_line call_line unit_text civil_text civil_of year_of month_within days_of_months
 stopped = refl
 
 -- ---- all commands, and all values
@@ -413,7 +413,7 @@ all_commands : calls_text (map ok_of commands) ≡ text (
     codes "  RETURN ENDACTIVITY NORMAL" ∷
     codes "  ABEND(X) NORMAL" ∷
     codes "  ROLLBACK NORMAL" ∷ [])
-unfolding digits line
+unfolding digits call_line
 all_commands = refl
 
 abbrev replies : List Reply
@@ -456,5 +456,5 @@ all_values : calls_text (map (λ r. command.TestEvent x gives r) replies) ≡ te
     codes "  TEST EVENT(X) NORMAL DORMANT" ∷
     codes "  TEST EVENT(X) NORMAL COMPLETE" ∷
     codes "  TEST EVENT(X) NORMAL ABEND CHLD" ∷ [])
-unfolding digits line
+unfolding digits call_line
 all_values = refl

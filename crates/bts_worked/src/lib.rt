@@ -1,6 +1,6 @@
 //! Worked examples: what commands answer and leave, which processes are sound, and what is printed, computed from the
-//! definitions alone. Nothing stands on this crate; it is here so that a change of a definition is seen in seconds, as an example
-//! that doesn't compute any more.
+//! definitions alone. Nothing stands on this crate; it is here so that a change of a definition is seen in seconds, as
+//! an example that doesn't compute any more.
 //!
 //! The examples are in `proofs/`. One of commands is a table: the frame, the moment and the process before, a line for
 //! each command with its reply, and the process behind them (`Plays` in `Tables`). `Composites`, `Timers`,
