@@ -11,3 +11,6 @@ mod words;
 
 pub use lines::{list_text, report};
 pub use number::add_number;
+
+#[cfg(test)]
+mod tests;
