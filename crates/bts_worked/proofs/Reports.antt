@@ -55,7 +55,7 @@ report_behind n history = flat_map unit_text (enumerate_from (n + 1) history)
 abbrev text : List Bytes → Bytes
 text = flat_map (λ l. l ++ 10 ∷ [])
 
--- ---- a first request
+-- ---- a first request, and one that is refused; the bytes that are put are not printed
 
 abbrev acquired : Spot
 acquired = spot.Of target.AcqProcess
