@@ -9,7 +9,8 @@ use Rattle.bts_tool.specs.declared.request.Request.{Request}
 use Rattle.bts_tool.specs.RequestText.{is_request, IsRequestText}
 use Rattle.bts_tool.specs.Reading.{request_in}
 use Rattle.bts_tool.specs.Unit.{ended_of}
-use Rattle.bts_tool.specs.Report.{report, end_line}
+use Rattle.bts_report.specs.Reports.{report}
+use Rattle.bts_tool.specs.Tail.{end_line}
 use Rattle.bts_tool.specs.declared.cause.Cause.{Cause}
 use Rattle.bts_tool.specs.declared.cause.Cause.TheVariants.{WordsRefused, SourceFault, NoRequest, NoMemory}
 

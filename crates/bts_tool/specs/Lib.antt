@@ -1,8 +1,7 @@
 pub mod Causes
 pub mod Reading
-pub mod Report
-pub mod ReportWords
 pub mod RequestText
 pub mod Rows
+pub mod Tail
 pub mod Unit
 pub mod Words

@@ -2,13 +2,11 @@
 #![tactic(auto)]
 
 mod cause;
-mod command_words;
 mod lines;
 mod process;
-mod report;
-mod report_words;
 mod request;
 mod streams;
+mod tail;
 #[cfg(test)]
 mod tests;
 mod text;

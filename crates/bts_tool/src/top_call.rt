@@ -9,13 +9,14 @@ ghost use Rattle.bts_tool.specs.declared.cause.Cause.{Cause};
 ghost use Rattle.bts_tool.specs.Causes.{IsRead, IsNoInput, IsHistory, IsUnread, Meets, MeetsText, Tells, TellsDone, read_limit, is_status, text_of};
 
 use crate::cause::Cause;
-use crate::report::{add_end_line, report};
 use crate::request::read_request;
+use crate::tail::add_end_line;
 use crate::unit::do_request;
 use crate::words::are_run;
 use bts_command::{Ended, History};
 use bts_io::{ReadFault, Sink, Source, read_all, write_all};
 use bts_names::{Blob, NoMemory};
+use bts_report::report;
 use std::alloc::Global;
 use std::slice;
 
@@ -66,7 +67,7 @@ fn report_text(alloc: Global, ended: &Ended) -> Result<Blob, NoMemory>
     ensures { IfOk result (λ text. text ≡ text_of (Ok ended.now)) }
 {
     let mut text = report(alloc, slice::from_ref(ended))?;
-    add_end_line(alloc, &mut text, 1)?;
+    add_end_line(&mut text, 1)?;
     Ok(text)
 }
 

@@ -1,0 +1,16 @@
+//! Texts of what happened and of what is there: the report of a history, and the list of activities.
+#![tactic(auto)]
+
+mod command_words;
+mod lines;
+mod number;
+mod reply_words;
+mod row_words;
+mod unit_words;
+mod words;
+
+pub use lines::{list_text, report};
+pub use number::add_number;
+
+#[cfg(test)]
+mod tests;

@@ -1,7 +1,0 @@
-use Rattle.std.proofs.Common.{◌≡◌, ◌++◌, drop}
-use Rattle.std.specs.List.{flat_map}
-use Rattle.bts_tool.specs.Report.{row_line}
-use Rattle.bts_tool.proofs.report.add_rows.Given as goal
-
-abbrev pub invariant-loop-row : goal.invariant-loop-row
-invariant-loop-row l = l.out ++ flat_map row_line (drop l.row-index l.rows) ≡ l.fn.out ++ flat_map row_line l.rows

@@ -1,7 +1,0 @@
-use Rattle.std.proofs.Common.{◌≡◌, ◌++◌, drop}
-use Rattle.std.specs.List.{flat_map}
-use Rattle.bts_tool.specs.ReportWords.{hex_pair}
-use Rattle.bts_tool.proofs.report_words.add_hex.Given as goal
-
-abbrev pub invariant-loop-b : goal.invariant-loop-b
-invariant-loop-b l = l.out ++ flat_map hex_pair (drop l.b-index l.bytes) ≡ l.fn.out ++ flat_map hex_pair l.bytes
