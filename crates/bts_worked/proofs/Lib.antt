@@ -7,3 +7,4 @@ pub mod Processes
 pub mod Repositories
 pub mod Sound
 pub mod Lines
+pub mod Blocks
