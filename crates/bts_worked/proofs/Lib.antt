@@ -1,4 +1,6 @@
 pub mod Tables
+pub mod BadLines
+pub mod Sessions
 pub mod Composites
 pub mod Timers
 pub mod Containers
