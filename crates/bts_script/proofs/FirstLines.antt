@@ -142,3 +142,19 @@ pub cut_line : (line : Bytes) → bytes_eq (drop (length line - 1) line) (codes 
 cut_line [] h = refl
 cut_line (b ∷ []) h = cut_one b (nat_eq b 13) refl (sym (alone b (nat_eq b 13) refl) ∙ h)
 cut_line (b ∷ c ∷ bs) h = rw (last_place b c bs) (ap (λ l. b ∷ l) (cut_line (c ∷ bs) (sym (end_next b c bs) ∙ h)))
+
+-- ---- how many lines there are
+
+one_part_more : (b : ℕ) (parts : List Bytes) → length (lines_among (onto_first b parts)) ≤ 1 + length (lines_among parts)
+one_part_more b [] = omega arith
+one_part_more b (part ∷ []) = omega arith
+one_part_more b (part ∷ next ∷ parts) = omega arith
+
+few_on : (b : ℕ) (bs : Bytes) (t : Bool) → nat_eq b 10 ≡ t → length (lines_of bs) ≤ length bs → length (lines_of (b ∷ bs)) ≤ 1 + length bs
+few_on b bs true h few = rw (h, line_first [] bs) (omega (arith, few))
+few_on b bs false h few = let more = one_part_more b (parts_of bs) in rw h (omega (arith, few, more))
+
+-- no text has more lines than bytes
+pub few_lines : (text : Bytes) → length (lines_of text) ≤ length text
+few_lines [] = omega arith
+few_lines (b ∷ bs) = let few = few_on b bs (nat_eq b 10) refl (few_lines bs) in omega (arith, few)

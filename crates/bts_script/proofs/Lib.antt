@@ -1,5 +1,5 @@
 mod Ends
-mod FirstLines
+pub mod FirstLines
 mod Labels
 mod Statements
 mod Tables

@@ -1,4 +1,6 @@
 pub mod Tables
+pub mod BadLines
+pub mod Sessions
 pub mod Composites
 pub mod Timers
 pub mod Containers
@@ -8,3 +10,4 @@ pub mod Repositories
 pub mod Sound
 pub mod Lines
 pub mod Reports
+pub mod Blocks

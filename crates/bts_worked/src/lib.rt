@@ -7,4 +7,6 @@
 //! `Containers` and `Families` have those by subject; `Processes` and `Repositories` compute what becomes of trees and
 //! what is enabled; `Sound` has a process that is sound, and others that aren't, each for one reason;
 //! `Reports` has reports and lists, byte for byte.
+//! what is enabled; `Sound` has a process that is sound, and others that aren't, each for one reason. `Lines` and
+//! `Blocks` compute what lines and blocks of scripts say.
 #![tactic(auto)]
