@@ -5,8 +5,7 @@
 //! The examples are in `proofs/`. One of commands is a table: the frame, the moment and the process before, a line for
 //! each command with its reply, and the process behind them (`Plays` in `Tables`). `Composites`, `Timers`,
 //! `Containers` and `Families` have those by subject; `Processes` and `Repositories` compute what becomes of trees and
-//! what is enabled; `Sound` has a process that is sound, and others that aren't, each for one reason;
+//! what is enabled; `Sound` has a process that is sound, and others that aren't, each for one reason. `Lines`, `Blocks`,
+//! `Sessions` and `BadLines` compute what lines, blocks of scripts and sessions say, and why lines are refused.
 //! `Reports` has reports and lists, byte for byte.
-//! what is enabled; `Sound` has a process that is sound, and others that aren't, each for one reason. `Lines` and
-//! `Blocks` compute what lines and blocks of scripts say.
 #![tactic(auto)]
