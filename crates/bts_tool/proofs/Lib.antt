@@ -1,6 +1,5 @@
-pub mod Pieces
-pub mod SpelledLines
-pub mod SpelledRequest
-pub mod SpelledUses
+pub mod Counted
+pub mod Session
 pub mod Told
-pub mod Uses
+pub mod Turns
+pub mod Within

@@ -1,7 +1,7 @@
 pub mod Causes
-pub mod Reading
-pub mod RequestText
+pub mod Processes
 pub mod Rows
+pub mod Runs
 pub mod Tail
-pub mod Unit
+pub mod Work
 pub mod Words

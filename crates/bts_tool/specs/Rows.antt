@@ -22,10 +22,6 @@ use Rattle.bts_tool.specs.declared.process.Held.{Held}
 use Rattle.bts_tool.specs.declared.process.Held.TheVariants as held
 use Rattle.bts_tool.specs.declared.process.Scope.{Scope}
 
--- the scope of a request whose key was never defined
-abbrev pub no_scope : Scope
-no_scope = record { process = record { generation = 0; root = None; containers = [] }; held = held.Never }
-
 -- a command that was done answers its value, and a refused one its reason
 abbrev pub normal : Value → Reply
 normal v = record { resp = resp.Normal; reason = reason.None; value = v }

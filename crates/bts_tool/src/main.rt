@@ -1,27 +1,25 @@
-//! `bts run FILE`: does the request that standard input holds, and reports it on standard output.
+//! `bts run FILE`: does the session that standard input holds, and reports it on standard output.
 #![tactic(auto)]
 
 mod cause;
-mod lines;
 mod process;
-mod request;
+mod processes;
+mod requests;
 mod streams;
 mod tail;
 #[cfg(test)]
 mod tests;
-mod text;
 mod top_call;
-mod unit;
 mod words;
+mod work;
 
 use bts_names::NoMemory;
-use cause::Cause;
 use std::alloc::Global;
 use std::env;
 use std::io::ErrorKind;
 use std::process::ExitCode;
 use streams::{ReaderSource, WriterSink};
-use top_call::{bts_command, tell_cause};
+use top_call::{bts_command, tell_no_memory};
 
 /// The words of the command line. Where one of them is no text, or they can't be had, there are none, and
 /// no words are wrong words.
@@ -45,7 +43,7 @@ fn main(rt: HostRuntime) -> ExitCode {
     let mut sink = WriterSink::new(rt.stdout());
     let outcome = match words_of(&rt, alloc) {
         Ok(words) => bts_command(alloc, &words, &mut source, &mut sink),
-        Err(_) => tell_cause(&mut sink, Cause::NoMemory),
+        Err(_) => tell_no_memory(&mut sink),
     };
     ExitCode::from(outcome.status)
 }

@@ -1,7 +1,8 @@
 // One process as a request works on it, and the commands of a request's first frame.
 ghost use Rattle.std.specs.Prelude.{◌≡◌, ◌<◌, ◌≤◌, ◌+◌, ◌^◌, IfOk, OnOk, OnErr};
 ghost use Rattle.bts_names.specs.Answer.{reply_of, left_by};
-ghost use Rattle.bts_tool.specs.Rows.{row, define_process_row, put_container_row, get_container_row, place_refusal, no_scope, normal, refusal, has_acquired};
+ghost use Rattle.bts_tool.specs.Processes.{no_process, scope_of};
+ghost use Rattle.bts_tool.specs.Rows.{row, define_process_row, put_container_row, get_container_row, place_refusal, normal, refusal, has_acquired};
 
 use bts_command::{Command, Spot, Target};
 use bts_container::{ContainerPool, PutError};
@@ -23,6 +24,31 @@ pub struct Process {
     pub containers: ContainerPool,
 }
 
+impl Process {
+    /// The process of a key that was never defined.
+    pub fn new(alloc: Global) -> Process
+        ensures { result ≡ no_process }
+    {
+        Process {
+            generation: 0,
+            root: None,
+            containers: ContainerPool::new(alloc),
+        }
+    }
+
+    /// A process that is the same.
+    pub fn copy(&self, alloc: Global) -> Result<Process, NoMemory>
+        ensures { IfOk result (λ copy. copy ≡ self.now) }
+    {
+        let containers = self.containers.copy(alloc)?;
+        Ok(Process {
+            generation: self.generation,
+            root: self.root,
+            containers,
+        })
+    }
+}
+
 /// What a unit of work has acquired.
 #[derive(Clone, Copy, Debug)]
 pub enum Held {
@@ -38,16 +64,12 @@ pub struct Scope {
 }
 
 impl Scope {
-    /// The scope of a request whose key was never defined.
-    pub fn new(alloc: Global) -> Scope
-        ensures { result ≡ no_scope }
+    /// The scope of a request before its first command.
+    pub fn new(process: Process) -> Scope
+        ensures { result ≡ scope_of process }
     {
         Scope {
-            process: Process {
-                generation: 0,
-                root: None,
-                containers: ContainerPool::new(alloc),
-            },
+            process,
             held: Held::Never,
         }
     }

@@ -1,24 +1,26 @@
 // The top call of the program.
-ghost use Rattle.std.specs.Prelude.{◌≡◌, ◌≢◌, ◌⊎◌, ◌≤◌, true, false, map, string_bytes, IfSome, IfOk, IsSome, Option, None, Some, Result, Ok, Err, ◌∷◌, []};
+ghost use Rattle.std.specs.Prelude.{◌≡◌, ◌≢◌, ◌⊎◌, ◌≤◌, true, false, map, string_bytes, IfSome, IfOk, IsSome, List, Result, Ok, Err};
 ghost use Rattle.std.specs.Io.KnownBytes.{Appends};
 ghost use Rattle.bts_io.specs.Faults.{Rose};
 ghost use Rattle.bts_io.specs.Streams.{AppendsFront, ConsumesWithin};
+ghost use Rattle.bts_script.specs.Blocks.{Refusal};
 ghost use Rattle.bts_command.specs.declared.ended.Ended.{Ended};
 ghost use Rattle.bts_tool.specs.Words.{takes_words};
 ghost use Rattle.bts_tool.specs.declared.cause.Cause.{Cause};
-ghost use Rattle.bts_tool.specs.Causes.{IsRead, IsNoInput, IsHistory, IsUnread, Meets, MeetsText, Tells, TellsDone, read_limit, is_status, text_of};
+ghost use Rattle.bts_tool.specs.declared.cause.Cause.TheVariants as causes;
+ghost use Rattle.bts_tool.specs.Causes.{IsRead, IsSaid, IsHistory, IsUnread, Meets, MeetsText, Tells, TellsFound, TellsOrShort, read_limit, is_status, text_of};
 
-use crate::cause::Cause;
-use crate::request::read_request;
+use crate::cause::{Cause, bad_session_line};
+use crate::requests::do_session;
 use crate::tail::add_end_line;
-use crate::unit::do_request;
 use crate::words::are_run;
 use bts_command::{Ended, History};
 use bts_io::{ReadFault, Sink, Source, read_all, write_all};
 use bts_names::{Blob, NoMemory};
 use bts_report::report;
+use bts_script::{ScriptError, Word};
+use bts_session::read_session;
 use std::alloc::Global;
-use std::slice;
 
 /// The bytes of the longest session, and one more.
 const READ_LIMIT: usize = 16_777_217;
@@ -31,22 +33,23 @@ pub struct Outcome {
     pub history: Option<History>,
 }
 
-/// Does the request whose text the bytes are.
-fn do_text(alloc: Global, text: &[u8]) -> Result<Ended, Cause>
+/// Does the session that the bytes say.
+fn do_text(alloc: Global, text: &[u8]) -> Result<History, Cause>
     ensures { MeetsText text.now result }
 {
-    match read_request(alloc, text) {
-        Ok(Some(request)) => match do_request(alloc, request) {
-            Ok(ended) => Ok(ended),
-            Err(_) => Err(Cause::NoMemory),
-        },
-        Ok(None) => Err(Cause::NoRequest),
+    let session = match read_session(alloc, text) {
+        Ok(session) => session,
+        Err(ScriptError::Syntax { line, reason }) => return Err(Cause::BadSession { line, reason }),
+        Err(ScriptError::NoMemory) => return Err(Cause::NoMemory),
+    };
+    match do_session(alloc, session) {
+        Ok(history) => Ok(history),
         Err(_) => Err(Cause::NoMemory),
     }
 }
 
-/// Looks at the words, reads the source, and does the request that it holds.
-fn run<S: Source>(alloc: Global, words: &[String], source: &mut S) -> Result<Ended, Cause>
+/// Looks at the words, reads the source, and does the session that it holds.
+fn run<S: Source>(alloc: Global, words: &[String], source: &mut S) -> Result<History, Cause>
     ensures met { Meets (takes_words (map string_bytes words.now)) (S.left source.old) (S.left source.new)
         (S.faults source.old) (S.faults source.new) result }
     ensures within { ConsumesWithin (S.left source.old) (S.left source.new) read_limit }
@@ -62,21 +65,13 @@ fn run<S: Source>(alloc: Global, words: &[String], source: &mut S) -> Result<End
     }
 }
 
-/// The report of one unit, and the line END.
-fn report_text(alloc: Global, ended: &Ended) -> Result<Blob, NoMemory>
-    ensures { IfOk result (λ text. text ≡ text_of (Ok ended.now)) }
+/// The report of a history, and the line END.
+fn report_text(alloc: Global, history: &[Ended]) -> Result<Blob, NoMemory>
+    ensures { IfOk result (λ text. text ≡ text_of (Ok history.now)) }
 {
-    let mut text = report(alloc, slice::from_ref(ended))?;
-    add_end_line(&mut text, 1)?;
+    let mut text = report(alloc, history)?;
+    add_end_line(&mut text, history.len() as u64)?;
     Ok(text)
-}
-
-fn history_of(alloc: Global, ended: Ended) -> Result<History, NoMemory>
-    ensures { IfOk result (λ history. history ≡ ended ∷ []) }
-{
-    let mut history = History::new(alloc);
-    history.push(ended)?;
-    Ok(history)
 }
 
 /// Writes a text, and hands out the history with the status, or with the sink's.
@@ -95,44 +90,70 @@ fn tell<K: Sink>(sink: &mut K, text: &[u8], status: u8, history: Option<History>
     }
 }
 
-/// Writes the tail line of a cause, and hands out its status, or the sink's.
-pub fn tell_cause<K: Sink>(sink: &mut K, cause: Cause) -> Outcome
-    ensures told { Tells (Err cause) result.status result.history (K.held sink.old) (K.held sink.new) }
+/// Tells want of memory.
+#[tactic(auto, unfolding(crate::specs::Causes::tail_line))]
+pub fn tell_no_memory<K: Sink>(sink: &mut K) -> Outcome
+    ensures told { Tells (Err causes.NoMemory) result.status result.history (K.held sink.old) (K.held sink.new) }
     ensures fault { result.status ≡ 5 → Rose (K.faults sink.old) (K.faults sink.new) }
     ensures later { K.faults sink.old ≤ K.faults sink.new }
 {
-    tell(sink, cause.tail_line(), cause.status(), None)
+    tell(sink, b"no memory\n", 8, None)
 }
 
-/// Tells that the request was done, or want of memory for telling it.
-fn tell_done<K: Sink>(alloc: Global, sink: &mut K, ended: Ended) -> Outcome
-    ensures told { TellsDone ended result.status result.history (K.held sink.old) (K.held sink.new) }
+/// Tells the first bad line of a session, or want of memory for telling it.
+fn tell_bad_session<K: Sink>(alloc: Global, sink: &mut K, line: u32, reason: Word) -> Outcome
+    ensures told { TellsOrShort (Err (causes.BadSession line reason)) result.status result.history (K.held sink.old) (K.held sink.new) }
     ensures fault { result.status ≡ 5 → Rose (K.faults sink.old) (K.faults sink.new) }
     ensures later { K.faults sink.old ≤ K.faults sink.new }
 {
-    let Ok(text) = report_text(alloc, &ended) else {
-        return tell_cause(sink, Cause::NoMemory);
-    };
-    let Ok(history) = history_of(alloc, ended) else {
-        return tell_cause(sink, Cause::NoMemory);
-    };
-    tell(sink, text.as_slice(), 0, Some(history))
+    match bad_session_line(alloc, line, reason) {
+        Ok(text) => tell(sink, text.as_slice(), 1, None),
+        Err(_) => tell_no_memory(sink),
+    }
 }
 
-/// Does what the words ask for, `run FILE`: reads the source, does the request whose text it holds, and
-/// writes the report and the tail line to the sink. The causes are met in the order words, source,
-/// bytes; a sink that fails gives the status 5 whatever came before; want of memory gives 8, and may come
-/// at any time behind the words.
+/// Tells the units of a session that was done, or want of memory for telling them.
+fn tell_done<K: Sink>(alloc: Global, sink: &mut K, history: History) -> Outcome
+    ensures told { TellsOrShort (Ok history) result.status result.history (K.held sink.old) (K.held sink.new) }
+    ensures fault { result.status ≡ 5 → Rose (K.faults sink.old) (K.faults sink.new) }
+    ensures later { K.faults sink.old ≤ K.faults sink.new }
+{
+    match report_text(alloc, history.as_slice()) {
+        Ok(text) => tell(sink, text.as_slice(), 0, Some(history)),
+        Err(_) => tell_no_memory(sink),
+    }
+}
+
+/// Tells what was found.
+#[tactic(auto, unfolding(crate::specs::Causes::tail_line))]
+fn tell_found<K: Sink>(alloc: Global, sink: &mut K, found: Result<History, Cause>) -> Outcome
+    ensures told { TellsFound found result.status result.history (K.held sink.old) (K.held sink.new) }
+    ensures fault { result.status ≡ 5 → Rose (K.faults sink.old) (K.faults sink.new) }
+    ensures later { K.faults sink.old ≤ K.faults sink.new }
+{
+    match found {
+        Ok(history) => tell_done(alloc, sink, history),
+        Err(Cause::WordsRefused) => tell(sink, b"words refused\n", 2, None),
+        Err(Cause::SourceFault) => tell(sink, b"source fault\n", 4, None),
+        Err(Cause::BadSession { line, reason }) => tell_bad_session(alloc, sink, line, reason),
+        Err(Cause::NoMemory) => tell_no_memory(sink),
+    }
+}
+
+/// Does what the words ask for, `run FILE`: reads the source, does the requests of the session that it
+/// holds, each on the processes that those before it left, and writes the report and the tail line to the
+/// sink. The causes are met in the order words, source, bytes; a sink that fails gives the status 5 whatever
+/// came before; want of memory gives 8, and may come at any time behind the words.
 pub fn bts_command<S: Source, K: Sink>(
     alloc: Global,
     words: &[String],
     source: &mut S,
     sink: &mut K,
 ) -> Outcome
-    // 0 done, 1 no request, 2 words refused, 4 source fault, 5 sink fault, 8 no memory.
+    // 0 done, 1 no session, 2 words refused, 4 source fault, 5 sink fault, 8 no memory.
     ensures known { is_status result.status ≡ true }
     ensures done { result.status ≡ 0 → IsSome result.history }
-    ensures no_request { result.status ≡ 1 → IsNoInput (S.left source.old) }
+    ensures no_session { result.status ≡ 1 → (why : Refusal) × IsSaid (S.left source.old) (Err why) }
     ensures words_refused { result.status ≡ 2 → takes_words (map string_bytes words.now) ≡ false }
     ensures source_fault { result.status ≡ 4 → Rose (S.faults source.old) (S.faults source.new) }
     ensures sink_fault { result.status ≡ 5 → Rose (K.faults sink.old) (K.faults sink.new) }
@@ -143,21 +164,19 @@ pub fn bts_command<S: Source, K: Sink>(
     ensures read { (result.status ≡ 1) ⊎ IsSome result.history → IsRead (S.left source.old) (S.left source.new) }
     ensures within { ConsumesWithin (S.left source.old) (S.left source.new) read_limit }
 
-    // The history is the one unit of the request whose text the source held.
+    // The history is that of the session which the source held: its requests in order, one unit each.
     ensures history { IfSome result.history (IsHistory (S.left source.old)) }
     ensures history_there { IsSome result.history → (result.status ≡ 0) ⊎ (result.status ≡ 5) }
 
     // What is written is a front of the report and tail line of the first cause that is met, and all of
-    // it but where the sink failed.
-    ensures text { (found : Result Ended Cause)
+    // it but where the sink failed; the tail line of a bad session tells its first bad line and the reason.
+    ensures text { (found : Result (List Ended) Cause)
         × Meets (takes_words (map string_bytes words.now)) (S.left source.old) (S.left source.new)
         (S.faults source.old) (S.faults source.new) found
         × Tells found result.status result.history (K.held sink.old) (K.held sink.new) }
     ensures source_count { S.faults source.old ≤ S.faults source.new }
     ensures sink_count { K.faults sink.old ≤ K.faults sink.new }
 {
-    match run(alloc, words, source) {
-        Ok(ended) => tell_done(alloc, sink, ended),
-        Err(cause) => tell_cause(sink, cause),
-    }
+    let found = run(alloc, words, source);
+    tell_found(alloc, sink, found)
 }
