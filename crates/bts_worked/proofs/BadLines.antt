@@ -1,5 +1,5 @@
 -- Bad lines, computed where all forms are let through: each line where it stands, and the reason for which it is refused.
-use Rattle.std.specs.Prelude.{◌≡◌, Bool, true, Option, Some, None, Result, Err, is_ok, map, List, [], ◌∷◌, codes, refl}
+use Rattle.std.specs.Prelude.{◌≡◌, true, Option, Some, None, Result, Err, is_ok, map, List, [], ◌∷◌, codes, refl}
 use Rattle.std.specs.List.{list_all}
 use Rattle.bts_names.specs.Names.{Bytes}
 use Rattle.bts_forms.specs.declared.line.Line.{Line}

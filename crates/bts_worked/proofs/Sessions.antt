@@ -1,5 +1,5 @@
 -- Sessions computed from their texts, where all forms are let through, and as they are now.
-use Rattle.std.specs.Prelude.{◌≡◌, ℕ, Bool, true, false, None, Some, Result, Ok, Err, map, List, [], ◌∷◌, length, codes, refl}
+use Rattle.std.specs.Prelude.{◌≡◌, ℕ, true, false, None, Some, Result, Ok, map, List, [], ◌∷◌, length, codes, refl}
 use Rattle.bts_names.specs.Names.{Bytes}
 use Rattle.bts_names.specs.declared.state.Mode.TheVariants as mode
 use Rattle.bts_command.specs.declared.command.Command.TheVariants as command
@@ -7,7 +7,6 @@ use Rattle.bts_command.specs.declared.command.Spot.TheVariants as spots
 use Rattle.bts_command.specs.declared.command.Target.TheVariants as of
 use Rattle.bts_forms.specs.declared.statement.Given.TheVariants as givens
 use Rattle.bts_forms.specs.declared.statement.Cond.TheVariants as when
-use Rattle.bts_forms.specs.declared.statement.Statement.{Statement}
 use Rattle.bts_forms.specs.declared.statement.Statement.TheVariants as statement
 use Rattle.bts_forms.specs.declared.line.Word.{Word}
 use Rattle.bts_forms.specs.declared.line.Word.TheVariants as word
@@ -70,14 +69,15 @@ order : in_full (codes "PROGRAM LEAF\nRETRIEVE REATTACH EVENT\nLABEL JOIN\nRETUR
           statement.Command (command.Run of.AcqProcess false None) ∷
           []) ∷ [];
       programs =
-          (codes "LEAF", statement.Command command.RetrieveReattach ∷ statement.Label (codes "JOIN") ∷ statement.Command (command.Return true) ∷ []) ∷
-          (codes "ORDER",
-          statement.When (when.Event (codes "BOTH")) (codes "JOIN") ∷
-          statement.Command (command.Run (of.Activity (codes "BILL")) false None) ∷
-          statement.Command (command.Return false) ∷
-          statement.Label (codes "JOIN") ∷
-          statement.Command (command.Check (of.Activity (codes "BILL"))) ∷
-          []) ∷ [];
+          (codes "LEAF", statement.Command command.RetrieveReattach ∷ statement.Label (codes "JOIN") ∷ statement.Command (command.Return true) ∷ []) ∷ (
+            codes "ORDER",
+            statement.When (when.Event (codes "BOTH")) (codes "JOIN") ∷
+                statement.Command (command.Run (of.Activity (codes "BILL")) false None) ∷
+                statement.Command (command.Return false) ∷
+                statement.Label (codes "JOIN") ∷
+                statement.Command (command.Check (of.Activity (codes "BILL"))) ∷
+                [],
+          ) ∷ [];
     })
 unfolding is_decimal number_in number_within behind_front cut_at cut_at_last closed_by first_word behind_word up_to argument argument_in at_next_word argument_to_last ended step_in steps_in path_in hex_digit hex_pair hex_pairs text_in pairs_in fill_in target spot either synchrony connective whether input due acquired early_condition late_condition condition program_line request_line end_line clock_line settle_line browse_line label_line goto_line when_line define_process acquire_process acquire_activity purge_process define_activity delete_activity run link check cancel reset suspend resume put_container get_container delete_container define_input define_composite add_subevent remove_subevent delete_event test_event retrieve_reattach retrieve_subevent define_timer force_timer check_timer delete_timer plain_return return_ending abend rollback reads_by in_process literal_or_fill put_in_process get_in_process two_in marked_in civil_in moment_in days_of_months is_name_byte statements outside sections_of section_in sections_in
 order = refl
