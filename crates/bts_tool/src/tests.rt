@@ -20,7 +20,8 @@ const PUT: &str = "  PUT CONTAINER(MSG) NORMAL\n";
 
 const LONG: &str = "  PUT CONTAINER(MSG) LENGERR Long\n";
 
-const NO_REQUEST: &str = "session: line 0 NotYet\n";
+const TAKEN: &str =
+    "2 REQUEST ORDERS P1 1970-01-01T00:00:00 COMMIT\n  DEFINE PROCESS PROCESSERR Taken\n  RETURN NORMAL\nEND 2\n";
 
 /// A sink that takes at most five bytes at a time.
 #[derive(Drop)]
@@ -88,19 +89,13 @@ fn does(alloc: Global, lines: &str, calls: &str) -> Result<bool, Fail> {
     answers(alloc, &text, 0, &told)
 }
 
-/// Whether a session with these lines is no request.
-fn refuses(alloc: Global, lines: &str) -> Result<bool, Fail> {
-    let text = format!(in alloc; "{OPENING}{lines}END\n")?;
-    answers(alloc, &text, 1, NO_REQUEST)
-}
-
 fn put_line(alloc: Global, len: usize) -> Result<String, Fail> {
     let text = times(alloc, "x", len)?;
     Ok(format!(in alloc; "PUT CONTAINER(MSG) ACQPROCESS FROM('{text}')\n")?)
 }
 
-/// The status of a session whose names have so many bytes.
-fn status_at_names(alloc: Global, lens: [usize; 3]) -> Result<u8, Fail> {
+/// Whether a session with names of so many bytes gets that answer.
+fn answers_at_names(alloc: Global, lens: [usize; 3], status: u8) -> Result<bool, Fail> {
     let ptype = times(alloc, "T", lens[0])?;
     let pname = times(alloc, "N", lens[1])?;
     let container = times(alloc, "C", lens[2])?;
@@ -108,7 +103,16 @@ fn status_at_names(alloc: Global, lens: [usize; 3]) -> Result<u8, Fail> {
         "REQUEST {ptype} {pname}\nDEFINE PROCESS TRANSID(O) PROGRAM(P)\nGET CONTAINER({container}) ACQPROCESS\nEND\n"
     )?;
     let mut sink = MemorySink::new(alloc, Vec::new(alloc));
-    Ok(run(alloc, &text, &mut sink)?.status)
+    Ok(run(alloc, &text, &mut sink)?.status == status)
+}
+
+/// Whether the first request ends so, with so many calls and one line more of them.
+fn ends_so(alloc: Global, lines: &str, end: &str, calls: &str) -> Result<bool, Fail> {
+    let text = format!(in alloc; "{OPENING}{lines}END\n")?;
+    let told = format!(in alloc;
+        "1 REQUEST ORDERS P1 1970-01-01T00:00:00 {end}\n  DEFINE PROCESS NORMAL\n{calls}END 1\n"
+    )?;
+    answers(alloc, &text, 0, &told)
 }
 
 /// Whether a run on the first session, over a narrow sink, gets that answer where those calls fail.
@@ -140,56 +144,111 @@ fn requests_are_done(rt: HostRuntime) -> Result<(), Fail> {
             "  PUT CONTAINER(MSG) NORMAL\n  GET CONTAINER(MSG) NORMAL X'68656C6C6F'\n",
         ),
         (
-            "PUT CONTAINER(A.1) ACQPROCESS FROM('a) b)')\nPUT CONTAINER(A.1) ACQPROCESS FROM('')\nGET CONTAINER(A.1) ACQPROCESS\n",
+            "PUT CONTAINER(A.1) ACQPROCESS FROM('a) b)')\nPUT CONTAINER(A.1) ACQPROCESS FROM(X'')\nGET CONTAINER(A.1) ACQPROCESS\n",
             "  PUT CONTAINER(A.1) NORMAL\n  PUT CONTAINER(A.1) NORMAL\n  GET CONTAINER(A.1) NORMAL X''\n",
         ),
+        (
+            "PUT CONTAINER(A) ACQPROCESS FROM(X'0aFf')\n  GET   CONTAINER(A) ACQPROCESS \r\n",
+            "  PUT CONTAINER(A) NORMAL\n  GET CONTAINER(A) NORMAL X'0AFF'\n",
+        ),
+        ("PUT CONTAINER(MSG) ACQPROCESS FROM(FILL(32768))\n", PUT),
+        ("PUT CONTAINER(MSG) ACQPROCESS FROM(FILL(32769))\n", LONG),
     ];
     for (lines, calls) in table {
         assert!(rt; does(alloc, lines, calls)?, "at {lines}");
     }
-    assert!(rt; does(alloc, &times(alloc, GET, 98)?, &times(alloc, MISSING, 98)?)?);
-    for (len, call) in [(32_768, PUT), (32_769, LONG), (39_962, LONG)] {
+    for (len, call) in [(32_768, PUT), (32_769, LONG)] {
         assert!(rt; does(alloc, &put_line(alloc, len)?, call)?, "at {len}");
     }
     Ok(())
 }
 
 #[test]
-fn other_texts_are_refused(rt: HostRuntime) -> Result<(), Fail> {
+fn requests_follow_one_another(rt: HostRuntime) -> Result<(), Fail> {
     let alloc = rt.alloc();
-    let texts = [
-        "HELLO\n",
-        "",
-        "REQUEST ORDERS P1\nDEFINE PROCESS TRANSID(ORD1) PROGRAM(ROOT)\nEND",
-        "REQUEST ORDERS P1\nDEFINE PROCESS TRANSID(ORD1) PROGRAM(ROOT)\nEND\r\n",
-        "REQUEST ORDERS P1\nDEFINE PROCESS TRANSID(ORD1) PROGRAM(ROOT)\nEND\n\n",
-        "REQUEST DFHX P1\nDEFINE PROCESS TRANSID(ORD1) PROGRAM(ROOT)\nEND\n",
+    assert!(rt; answers(alloc, "", 0, "END 0\n")?);
+    assert!(rt; answers(alloc, "* nothing\n \n", 0, "END 0\n")?);
+    let text = format!(in alloc; "{OPENING}END\n{OPENING}END")?;
+    let told = format!(in alloc; "{HEAD}  RETURN NORMAL\n{TAKEN}")?;
+    assert!(rt; answers(alloc, &text, 0, &told)?);
+    let text = format!(in alloc; "{OPENING}END\nREQUEST ORDERS P2\n{GET}RETURN\n{GET}END\n")?;
+    let told = format!(in alloc;
+        "{HEAD}  RETURN NORMAL\n2 REQUEST ORDERS P2 1970-01-01T00:00:00 COMMIT\n  GET CONTAINER(MSG) INVREQ NotAcquired\n  RETURN NORMAL\nEND 2\n"
+    )?;
+    assert!(rt; answers(alloc, &text, 0, &told)?);
+    Ok(())
+}
+
+#[test]
+fn budgets_end_requests(rt: HostRuntime) -> Result<(), Fail> {
+    let alloc = rt.alloc();
+    let last = times(alloc, MISSING, 498)?;
+    let calls = format!(in alloc; "{last}  RETURN NORMAL\n")?;
+    assert!(rt; ends_so(alloc, &times(alloc, GET, 498)?, "COMMIT", &calls)?);
+    let calls = times(alloc, MISSING, 499)?;
+    assert!(rt; ends_so(alloc, &times(alloc, GET, 499)?, "ABEND CMDS", &calls)?);
+    let most = "PUT CONTAINER(MSG) ACQPROCESS FROM(FILL(1048576))\n";
+    let calls = format!(in alloc; "{}  RETURN NORMAL\n", times(alloc, LONG, 8)?)?;
+    assert!(rt; ends_so(alloc, &times(alloc, most, 8)?, "COMMIT", &calls)?);
+    let one_more = format!(in alloc;
+        "{}PUT CONTAINER(MSG) ACQPROCESS FROM('x')\n{GET}",
+        times(alloc, most, 8)?
+    )?;
+    let calls = format!(in alloc; "{}{PUT}", times(alloc, LONG, 8)?)?;
+    assert!(rt; ends_so(alloc, &one_more, "ABEND SIZE", &calls)?);
+    Ok(())
+}
+
+#[test]
+fn an_abend_gives_back_what_stood_before(rt: HostRuntime) -> Result<(), Fail> {
+    let alloc = rt.alloc();
+    let gets = times(alloc, GET, 499)?;
+    let calls = times(alloc, MISSING, 499)?;
+    let text = format!(in alloc; "{OPENING}{gets}END\n{OPENING}END\n")?;
+    let told = format!(in alloc;
+        "1 REQUEST ORDERS P1 1970-01-01T00:00:00 ABEND CMDS\n  DEFINE PROCESS NORMAL\n{calls}2 REQUEST ORDERS P1 1970-01-01T00:00:00 COMMIT\n  DEFINE PROCESS NORMAL\n  RETURN NORMAL\nEND 2\n"
+    )?;
+    assert!(rt; answers(alloc, &text, 0, &told)?);
+    Ok(())
+}
+
+#[test]
+fn bad_sessions_are_told(rt: HostRuntime) -> Result<(), Fail> {
+    let alloc = rt.alloc();
+    let table = [
+        ("HELLO\n", "session: line 1 Word\n"),
+        ("* x\n\nREQUEST ORDERS P1", "session: line 3 Open\n"),
+        ("REQUEST DFHX P1\nEND\nHELLO\n", "session: line 1 Name\n"),
+        (
+            "REQUEST T P\nGET CONTAINER(C)\nEND\n",
+            "session: line 2 NotYet\n",
+        ),
+        ("REQUEST T P\nREQUEST T P\nEND\n", "session: line 2 Place\n"),
+        ("END\n", "session: line 1 Place\n"),
+        ("REQUEST T\tP\n", "session: line 1 Character\n"),
+        (
+            "REQUEST T P\nPUT CONTAINER(C) ACQPROCESS FROM('a'b')\nEND\n",
+            "session: line 2 Literal\n",
+        ),
     ];
-    for text in texts {
-        assert!(rt; answers(alloc, text, 1, NO_REQUEST)?, "at {text}");
+    for (text, told) in table {
+        assert!(rt; answers(alloc, text, 1, told)?, "at {text}");
     }
-    let lines = [
-        "GET CONTAINER(DFHX) ACQPROCESS\n",
-        "GET  CONTAINER(MSG) ACQPROCESS\n",
-        "PUT CONTAINER(MSG) ACQPROCESS FROM('a'b')\n",
-        "PUT CONTAINER(MSG) ACQPROCESS FROM('a\tb')\n",
-        "RETURN\n",
-    ];
-    for line in lines {
-        assert!(rt; refuses(alloc, line)?, "at {line}");
-    }
-    assert!(rt; refuses(alloc, &times(alloc, GET, 99)?)?);
-    assert!(rt; refuses(alloc, &put_line(alloc, 39_963)?)?);
-    let names = [
+    Ok(())
+}
+
+#[test]
+fn names_have_their_lengths(rt: HostRuntime) -> Result<(), Fail> {
+    let alloc = rt.alloc();
+    let table = [
         ([1, 1, 1], 0),
         ([8, 36, 16], 0),
         ([9, 36, 16], 1),
         ([8, 37, 16], 1),
         ([8, 36, 17], 1),
-        ([1, 0, 1], 1),
     ];
-    for (lens, status) in names {
-        assert_eq!(rt; status_at_names(alloc, lens)?, status, "at {lens:?}");
+    for (lens, status) in table {
+        assert!(rt; answers_at_names(alloc, lens, status)?, "at {lens:?}");
     }
     Ok(())
 }
@@ -226,6 +285,7 @@ fn a_text_above_the_limit_is_read_no_further(rt: HostRuntime) -> Result<(), Fail
     let words = words_of(alloc, "run F")?;
     let outcome = bts_command(alloc, &words, &mut source, &mut sink);
     assert_eq!(rt; outcome.status, 1);
+    assert_eq!(rt; sink.bytes(), b"session: line 0 Long\n".as_slice());
     assert_eq!(rt; read_all(alloc, &mut source, 9)?.len(), 1);
     Ok(())
 }
