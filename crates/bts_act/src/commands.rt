@@ -181,7 +181,8 @@ fn put(
     }
 }
 
-fn put_in(
+/// PUT CONTAINER into containers that are there.
+pub fn put_in(
     scope: &mut Scope,
     alloc: Global,
     store: Store,
@@ -221,7 +222,13 @@ fn get(
     }
 }
 
-fn get_in(scope: &Scope, alloc: Global, store: Store, container: Name16) -> Result<Reply, NoMemory>
+/// GET CONTAINER from containers that are there.
+pub fn get_in(
+    scope: &Scope,
+    alloc: Global,
+    store: Store,
+    container: Name16,
+) -> Result<Reply, NoMemory>
     requires { IsThere store scope.now.process }
     ensures { Does result scope.now.process scope.now.process
         (containers.lifted store scope.now.process
@@ -253,7 +260,8 @@ fn delete(scope: &mut Scope, at: &Path, container: Name16, spot: &Spot) -> Reply
     }
 }
 
-fn delete_in(scope: &mut Scope, store: Store, container: Name16) -> Reply
+/// DELETE CONTAINER from containers that are there.
+pub fn delete_in(scope: &mut Scope, store: Store, container: Name16) -> Reply
     requires { IsThere store scope.old.process }
     ensures row { Does (Ok result) scope.old.process scope.new.process
         (containers.lifted store scope.old.process

@@ -11,7 +11,10 @@ mod places;
 mod replies;
 mod timers;
 
-pub use commands::act;
+pub use commands::{act, delete_in, get_in, put_in};
+pub use places::Store;
+pub use replies::{Refusal, normal_reply, refused};
+pub use timers::{fire_unfired, force_timer};
 
 #[cfg(test)]
 mod tests;

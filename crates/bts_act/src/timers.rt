@@ -80,7 +80,8 @@ fn start_timer(
     Ok(())
 }
 
-pub(crate) fn force_timer(activity: &mut Activity, timer: Name16) -> Result<Reply, NoMemory>
+/// FORCE TIMER of a timer of an activity.
+pub fn force_timer(activity: &mut Activity, timer: Name16) -> Result<Reply, NoMemory>
     requires below { activity.old.pool.last < 2 ^ 64 - 1 }
     requires late { has_none_early activity.old ≡ true }
     ensures { Does result activity.old activity.new (on.force_timer timer activity.old) }
@@ -100,7 +101,7 @@ pub(crate) fn force_timer(activity: &mut Activity, timer: Name16) -> Result<Repl
 }
 
 /// Fires an event that may be fired: it fails only for want of memory.
-fn fire_unfired(pool: &mut EventPool, event: Name16) -> Result<(), NoMemory>
+pub fn fire_unfired(pool: &mut EventPool, event: Name16) -> Result<(), NoMemory>
     requires below { pool.old.last < 2 ^ 64 - 1 }
     requires unfired { fire_refusal event pool.old.events ≡ None }
     ensures ok { OnOk result (pool.new ≡ fired event pool.old) }
