@@ -1,5 +1,6 @@
 -- The row of a command that acquires nothing, in the table and in the form that is done.
 use Rattle.std.proofs.Common.{◌≡◌, ℕ, Bool, true, Option, refl, sym, ap}
+use Rattle.std.proofs.lemmas.Bool.{and_parts}
 use Rattle.bts_names.specs.Names.{Name, ActivityPath, Bytes}
 use Rattle.bts_names.specs.Answer.{refused, mapped}
 use Rattle.bts_names.specs.declared.reply.Resp.TheVariants as resp
@@ -56,8 +57,8 @@ module _ (h : Held) (depth : ℕ) (s : Process) where
   row_keeps now (command.Run target synchronous ev) i e = refl
   row_keeps now (command.Link target ev) i e = refl
   row_keeps now (command.Check target) i e = refl
-  row_keeps now (command.Cancel target) i e = ap (mapped (λ x. (x, h))) (sym (none_here target e _))
-  row_keeps now (command.Reset target) i e = ap (mapped (λ x. (x, h))) (sym (none_here target e _))
+  row_keeps now (command.Cancel target) i e = ap (mapped (λ x. (x, h))) (sym (none_here target (and_parts _ _ e).0 _))
+  row_keeps now (command.Reset target) i e = ap (mapped (λ x. (x, h))) (sym (none_here target (and_parts _ _ e).0 _))
   row_keeps now (command.Suspend target) i e = refl
   row_keeps now (command.Resume target) i e = refl
   row_keeps now (command.PutContainer n place bytes) i e = refl

@@ -1,6 +1,5 @@
 // The commands in a request's first frame.
-ghost use Rattle.std.specs.Prelude.{◌≡◌, ◌<◌, ◌-◌, ◌^◌, IsTrue, Ok, Some, true, false};
-ghost use Rattle.bts_names.specs.Answer.{Answer};
+ghost use Rattle.std.specs.Prelude.{◌≡◌, ◌<◌, ◌-◌, ◌^◌, [], IsTrue};
 ghost use Rattle.bts_tree.specs.Scopes.{holding};
 ghost use Rattle.bts_tree.specs.Soundness.{IsSoundInFrames, numbers_below};
 ghost use Rattle.bts_rows.specs.Given.{IsGiven};
@@ -36,6 +35,26 @@ pub fn request(
     requires late { IsTrue (none_early scope.old.process) }
     requires today { IsTrue (is_of_request command.now) }
     requires given { IsGiven command.now }
+    ensures row { Does result (scope.old.process, held.old) (scope.new.process, held.new)
+        (request_in held.old depth moment scope.old.process command.now) }
+    ensures rest { scope.new ≡ holding scope.new.process scope.old }
+    ensures kept { IsSoundInFrames [] scope.old.process → IsSoundInFrames [] scope.new.process }
+{
+    perform(scope, alloc, held, depth, moment, command)
+}
+
+fn perform(
+    scope: &mut Scope,
+    alloc: Global,
+    held: &mut Held,
+    depth: u32,
+    moment: Moment,
+    command: &Command,
+) -> Result<Reply, NoMemory>
+    requires numbers { IsTrue (numbers_below (2 ^ 64 - 1) scope.old.process) }
+    requires generation { scope.old.process.generation < 2 ^ 64 - 1 }
+    requires late { IsTrue (none_early scope.old.process) }
+    requires today { IsTrue (is_of_request command.now) }
     ensures row { Does result (scope.old.process, held.old) (scope.new.process, held.new)
         (request_in held.old depth moment scope.old.process command.now) }
     ensures rest { scope.new ≡ holding scope.new.process scope.old }

@@ -16,5 +16,7 @@ pub mod TimerFits
 pub mod ContainerChanges
 pub mod Frames
 pub mod ActSound
+pub mod RunSound
+pub mod RequestSound
 pub mod Proper
 pub mod ProperRows
