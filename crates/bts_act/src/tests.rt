@@ -4,9 +4,8 @@ ghost use Rattle.std.specs.List.{list_all};
 ghost use Rattle.bts_command.specs.Numbers.{command_number};
 ghost use Rattle.bts_tree.specs.Soundness.{numbers_below};
 ghost use Rattle.bts_rows.specs.Given.{IsGiven, is_systems};
-ghost use Rattle.bts_act.specs.Early.{has_none_early, is_early, none_early, waits_for};
 
-use crate::act;
+use crate::{act, none_is_early};
 use bts_command::{Command, Due, Names, Spot};
 use bts_event::{Event, Trigger};
 use bts_names::{
@@ -93,61 +92,6 @@ fn all_numbered(activities: &BTreeMap<Path, Activity>) -> bool
         }
     }
     true
-}
-
-/// Whether no event is fired while its timer is UNEXPIRED.
-fn none_is_early(scope: &Scope) -> bool
-    ensures { IsTrue result → IsTrue (none_early scope.now.process) }
-{
-    match scope.tree() {
-        Some(tree) => all_late(tree.activities()),
-        None => true,
-    }
-}
-
-fn all_late(activities: &BTreeMap<Path, Activity>) -> bool
-    ensures { result ≡ list_all (λ x. has_none_early x.1) activities.now.entries }
-{
-    for (path, activity) in activities {
-        let _ = path;
-        if !are_late(activity.pool.events(), &activity.timers) {
-            return false;
-        }
-    }
-    true
-}
-
-fn are_late(events: &BTreeMap<Name16, Event>, timers: &TimerPool) -> bool
-    ensures { result ≡ list_all (λ e. not (is_early timers.now e.1)) events.now.entries }
-{
-    for (name, event) in events {
-        let _ = name;
-        if is_early_one(event, timers) {
-            return false;
-        }
-    }
-    true
-}
-
-fn is_early_one(event: &Event, timers: &TimerPool) -> bool
-    ensures { result ≡ is_early timers.now event.now }
-{
-    match event {
-        Event::Atomic(atomic) => atomic.fired && waits(&atomic.trigger, timers),
-        Event::Composite(_) => false,
-    }
-}
-
-fn waits(trigger: &Trigger, timers: &TimerPool) -> bool
-    ensures { result ≡ waits_for timers.now trigger.now }
-{
-    let Trigger::Timer(name) = trigger else {
-        return false;
-    };
-    match timers.get(*name) {
-        Some(timer) => timer.is_unexpired(),
-        None => false,
-    }
 }
 
 /// The command of a step that is one.

@@ -11,3 +11,6 @@ mod containers;
 mod running;
 
 pub use commands::request;
+
+#[cfg(test)]
+mod tests;

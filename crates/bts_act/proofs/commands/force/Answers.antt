@@ -1,6 +1,6 @@
 use Rattle.std.proofs.Common.{sym, ◌∙◌}
 use Rattle.bts_act.proofs.Forced.{force_done, force_refused}
-use Rattle.bts_act.proofs.Early.{activity_none_early}
+use Rattle.bts_act.proofs.Late.{activity_none_early}
 use Rattle.bts_act.proofs.Lifts.{number_below}
 use Rattle.bts_act.proofs.commands.force.Goals as goal
 

@@ -1,5 +1,5 @@
 use Rattle.std.proofs.Common.{sym, ◌∙◌}
-use Rattle.bts_act.proofs.Early.{event_may_fire}
+use Rattle.bts_act.proofs.Late.{event_may_fire}
 use Rattle.bts_act.proofs.timers.force_timer.Goals as goal
 
 pub fire_unfired-requires-clause-unfired : goal.fire_unfired-requires-clause-unfired

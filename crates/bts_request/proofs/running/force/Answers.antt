@@ -4,7 +4,7 @@ use Rattle.bts_rows.specs.ActRows.{force_timer_row, forcing}
 use Rattle.bts_rows.specs.Targets.{in_request}
 use Rattle.bts_act.specs.Does.{Does}
 use Rattle.bts_act.specs.OnActivity as on
-use Rattle.bts_act.proofs.Early.{activity_none_early}
+use Rattle.bts_act.proofs.Late.{activity_none_early}
 use Rattle.bts_act.proofs.Lifts.{number_below}
 use Rattle.bts_act.proofs.OwnRows as own
 use Rattle.bts_request.proofs.Targets.{target_done, target_refused}

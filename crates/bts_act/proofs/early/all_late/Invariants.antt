@@ -1,7 +1,7 @@
 use Rattle.std.proofs.Common.{◌≡◌}
 use Rattle.std.specs.List.{list_all}
 use Rattle.bts_act.specs.Early.{has_none_early}
-use Rattle.bts_act.proofs.tests.all_late.Given as goal
+use Rattle.bts_act.proofs.early.all_late.Given as goal
 
 abbrev pub invariant-loop-path : goal.invariant-loop-path
 invariant-loop-path l =

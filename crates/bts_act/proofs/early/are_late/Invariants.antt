@@ -1,7 +1,7 @@
 use Rattle.std.proofs.Common.{◌≡◌, not}
 use Rattle.std.specs.List.{list_all}
 use Rattle.bts_act.specs.Early.{is_early}
-use Rattle.bts_act.proofs.tests.are_late.Given as goal
+use Rattle.bts_act.proofs.early.are_late.Given as goal
 
 abbrev pub invariant-loop-name : goal.invariant-loop-name
 invariant-loop-name l =
