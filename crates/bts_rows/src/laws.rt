@@ -10,10 +10,10 @@ ghost use Rattle.bts_command.specs.declared.command.Command.{Command};
 ghost use Rattle.bts_tree.specs.Processes.{Process, activities, activity_at};
 ghost use Rattle.bts_tree.specs.Soundness.{IsSoundInFrames};
 ghost use Rattle.bts_rows.specs.ActRows.{act_row};
-ghost use Rattle.bts_rows.specs.FamilyRows.{leaves_modes};
+ghost use Rattle.bts_rows.specs.FamilyRows.{family_row, leaves_modes};
 ghost use Rattle.bts_rows.specs.Given.{IsGiven};
 ghost use Rattle.bts_rows.specs.Replies.{IsProper, is_normal};
-ghost use Rattle.bts_rows.specs.Rows.{act_at, answer, request_in};
+ghost use Rattle.bts_rows.specs.Rows.{act_at, answer, family_at, request_in};
 ghost use Rattle.bts_rows.specs.Targets.{Here, in_activity, in_request};
 ghost use Rattle.bts_rows.specs.declared.held.Held.{Held};
 
@@ -51,7 +51,10 @@ pub fn commands_of_a_request_keep_soundness()
 /// In an activity's frame a command is read on the part of the process at its path, and the part is joined. That is
 /// what it answers and leaves when it is read on the whole process: so it touches nothing outside that part.
 pub fn a_frame_reads_its_part()
-    ensures { (path : ActivityPath) (now : ℕ) (s : Process) (c : Command)
+    ensures act { (path : ActivityPath) (now : ℕ) (s : Process) (c : Command)
         → IsStrictlySortedBy (slice_cmp nat_cmp) (keys_of (activities s))
         → act_at path now s c ≡ act_row (in_activity path) now s c }
+    ensures family { (path : ActivityPath) (depth : ℕ) (s : Process) (c : Command)
+        → IsStrictlySortedBy (slice_cmp nat_cmp) (keys_of (activities s))
+        → family_at path depth s c ≡ family_row (in_activity path) depth s c }
 {}
