@@ -1,14 +1,15 @@
 -- The rows on what a request has acquired are what they are on the activity that they are about.
-use Rattle.std.proofs.Common.{◌≡◌, ℕ, Bool, ◌&&◌, cond, nat_le, Option, Some, is_some, is_none, refl, sym, ap}
+use Rattle.std.proofs.Common.{◌≡◌, ℕ, Bool, ◌&&◌, cond, nat_le, Option, None, Some, is_some, is_none, refl, sym, ap}
 use Rattle.bts_names.specs.Names.{Name, ActivityPath}
 use Rattle.bts_names.specs.Answer.{done, mapped, refuse◌because◌when◌otherwise◌, refuse◌for◌otherwise◌}
 use Rattle.bts_names.specs.declared.reply.Resp.TheVariants as resp
 use Rattle.bts_names.specs.declared.reply.Reason.TheVariants as reason
 use Rattle.bts_names.specs.declared.reply.Value.TheVariants as value
+use Rattle.bts_names.specs.declared.state.Status.TheVariants as status
 use Rattle.bts_command.specs.declared.command.Target.{Target}
 use Rattle.bts_tree.specs.declared.activity.Activity.{Activity}
 use Rattle.bts_tree.specs.Activities.{has_entries, is_complete, is_dormant, is_initial}
-use Rattle.bts_tree.specs.Processes.{Process, activity_at, edited, written}
+use Rattle.bts_tree.specs.Processes.{Process, activity_at, complete, edited, written}
 use Rattle.bts_rows.specs.FamilyRows.{can_run, frame_limit, input_refusal, is_child, told, with_signal}
 use Rattle.bts_rows.specs.Targets.{AtActivity}
 use Rattle.bts_rows.proofs.Frames.{mapped_when, mapped_for}
@@ -56,3 +57,9 @@ module _ (s : Process) (to : Bool) where
 -- the rest of the row of CHECK, where the target is no child
 abbrev pub check_rest : Process → Target → AtActivity
 check_rest s target q a = done (value.Activity a.mode a.status a.suspended a.code) (cond (is_child target && is_complete a) (told q s) s)
+
+-- the rest of the row of CANCEL behind the target
+abbrev pub cancel_rest : Process → AtActivity
+cancel_rest s q a =
+    refuse resp.Activityerr because reason.Mode when is_complete a otherwise
+    done value.Nothing (complete q status.Forced None s)

@@ -1,5 +1,5 @@
 -- The row of a command that acquires nothing, in the table and in the form that is done.
-use Rattle.std.proofs.Common.{◌≡◌, ℕ, Bool, true, Option, refl, sym, ap}
+use Rattle.std.proofs.Common.{◌≡◌, ℕ, Bool, true, false, Option, refl, sym, ap}
 use Rattle.std.proofs.lemmas.Bool.{and_parts}
 use Rattle.bts_names.specs.Names.{Name, ActivityPath, Bytes}
 use Rattle.bts_names.specs.Answer.{refused, mapped}
@@ -13,9 +13,10 @@ use Rattle.bts_command.specs.declared.command.Spot.{Spot}
 use Rattle.bts_tree.specs.Processes.{Process}
 use Rattle.bts_rows.specs.declared.held.Held.{Held}
 use Rattle.bts_rows.specs.ActRows.{act_row}
-use Rattle.bts_rows.specs.FamilyRows.{family_row, is_child}
+use Rattle.bts_rows.specs.FamilyRows.{family_row, resets}
 use Rattle.bts_rows.specs.Rows.{request_in, row}
 use Rattle.bts_rows.specs.Targets.{AtActivity, at_target, in_request}
+use Rattle.bts_rows.proofs.TimerEvents.{not_so}
 use Rattle.bts_request.specs.OnRequest as on
 use Rattle.bts_request.specs.Today.{is_of_request}
 
@@ -31,6 +32,7 @@ pub record IsOther (c : Command) : Type 0 where
   pub run : (target : Target) (synchronous : Bool) (ev : Option Name) → c ≡ command.Run target synchronous ev → ⊥
   pub link : (target : Target) (ev : Option Name) → c ≡ command.Link target ev → ⊥
   pub check : (target : Target) → c ≡ command.Check target → ⊥
+  pub cancel : (target : Target) → c ≡ command.Cancel target → ⊥
   pub suspend : (target : Target) → c ≡ command.Suspend target → ⊥
   pub resume : (target : Target) → c ≡ command.Resume target → ⊥
   pub put : (n : Name) (place : Spot) (bytes : Bytes) → c ≡ command.PutContainer n place bytes → ⊥
@@ -40,7 +42,7 @@ pub record IsOther (c : Command) : Type 0 where
 
 module _ (h : Held) (depth : ℕ) (s : Process) where
   -- a command on a child is refused for its place
-  none_here : (target : Target) → is_child target ≡ true → (rest : AtActivity) → at_target (in_request h) s target rest ≡ refused resp.Invreq reason.Place
+  none_here : (target : Target) → resets (command.Reset target) ≡ false → (rest : AtActivity) → at_target (in_request h) s target rest ≡ refused resp.Invreq reason.Place
   none_here (of.Activity a) e rest = refl
   none_here of.AcqProcess e rest = cc
   none_here of.AcqActivity e rest = cc
@@ -57,8 +59,8 @@ module _ (h : Held) (depth : ℕ) (s : Process) where
   row_keeps now (command.Run target synchronous ev) i e = refl
   row_keeps now (command.Link target ev) i e = refl
   row_keeps now (command.Check target) i e = refl
-  row_keeps now (command.Cancel target) i e = ap (mapped (λ x. (x, h))) (sym (none_here target (and_parts _ _ e).0 _))
-  row_keeps now (command.Reset target) i e = ap (mapped (λ x. (x, h))) (sym (none_here target (and_parts _ _ e).0 _))
+  row_keeps now (command.Cancel target) i e = refl
+  row_keeps now (command.Reset target) i e = ap (mapped (λ x. (x, h))) (sym (none_here target (not_so _ (and_parts _ _ e).0) _))
   row_keeps now (command.Suspend target) i e = refl
   row_keeps now (command.Resume target) i e = refl
   row_keeps now (command.PutContainer n place bytes) i e = refl
@@ -91,7 +93,7 @@ module _ (h : Held) (depth : ℕ) (s : Process) where
   row_refuses (command.Run target synchronous ev) i = absurd (i.run target synchronous ev refl)
   row_refuses (command.Link target ev) i = absurd (i.link target ev refl)
   row_refuses (command.Check target) i = absurd (i.check target refl)
-  row_refuses (command.Cancel target) i = refl
+  row_refuses (command.Cancel target) i = absurd (i.cancel target refl)
   row_refuses (command.Reset target) i = refl
   row_refuses (command.Suspend target) i = absurd (i.suspend target refl)
   row_refuses (command.Resume target) i = absurd (i.resume target refl)

@@ -112,6 +112,12 @@ module _ (s : Process) where
   activity_there (held.Activity p) r k = cond_there (is_some (activity_at p s)) p r refl k
   activity_there held.Purged r k = cc
 
+  root_there : (h : Held) (r : ActivityPath) → root_of s h ≡ Ok r → is_some (activity_at r s) ≡ true
+  root_there held.Never r k = cc
+  root_there held.Process r k = cond_there (is_some (activity_at [] s)) [] r refl k
+  root_there (held.Activity p) r k = cc
+  root_there held.Purged r k = cc
+
   process_there : (r : Result ActivityPath Refusal) (st : Store) → process_at r ≡ Ok st → IsThere st s
   process_there (Ok q) store.Process k = tt
   process_there (Ok q) (store.Activity p) k = cc
@@ -123,3 +129,8 @@ module _ (s : Process) where
   store_there h (spot.Of (of.Activity c)) st k = cc
   store_there h (spot.Of of.AcqProcess) st k = process_there (root_of s h) st k
   store_there h (spot.Of of.AcqActivity) st k = stored_there [] s (activity_of s h) st (activity_there h) k
+
+  pub target_there : (h : Held) (target : Target) (r : ActivityPath) → target_of h s target ≡ Ok r → is_some (activity_at r s) ≡ true
+  target_there h (of.Activity a) r k = cc
+  target_there h of.AcqProcess r k = root_there h r k
+  target_there h of.AcqActivity r k = activity_there h r k

@@ -19,6 +19,7 @@ row h depth s (command.DeleteContainer c spot) = act.delete_container_row (in_re
 row h depth s (command.Run target synchronous input) = family.run_row (in_request h) depth s target synchronous input
 row h depth s (command.Link target input) = family.run_row (in_request h) depth s target true input
 row h depth s (command.Check target) = family.check_row (in_request h) s target
+row h depth s (command.Cancel target) = family.cancel_row (in_request h) s target
 row h depth s (command.Suspend target) = family.suspension_row true (in_request h) s target
 row h depth s (command.Resume target) = family.suspension_row false (in_request h) s target
 row h depth s (command.ForceTimer t target) = act.force_timer_row (in_request h) s t target

@@ -11,7 +11,7 @@ ghost use Rattle.bts_request.specs.Today.{is_of_request};
 
 use crate::acquiring::{acquire_activity, acquire_process, define_process, purge};
 use crate::containers::{delete_container, get_container, put_container};
-use crate::running::{check, force, run, suspend};
+use crate::running::{cancel, check, force, run, suspend};
 use bts_act::refused;
 use bts_command::Command;
 use bts_names::{Moment, NoMemory, Reason, Reply, Resp};
@@ -105,6 +105,7 @@ fn on_acquired(
         } => run(scope, held, depth, target, *synchronous, *input),
         Command::Link { target, input } => run(scope, held, depth, target, true, *input),
         Command::Check { target } => Ok(check(scope, held, target)),
+        Command::Cancel { target } => Ok(cancel(scope, held, target)),
         Command::Suspend { target } => Ok(suspend(scope, held, target, true)),
         Command::Resume { target } => Ok(suspend(scope, held, target, false)),
         Command::ForceTimer { timer, target } => force(scope, held, *timer, target),

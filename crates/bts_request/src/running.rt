@@ -1,6 +1,7 @@
-// RUN, LINK, CHECK, SUSPEND, RESUME and FORCE TIMER of what a request has acquired.
-ghost use Rattle.std.specs.Prelude.{◌≡◌, ◌<◌, ◌-◌, ◌^◌, ◌&&◌, IsTrue, OnOk, OnErr, None, Ok, true, false};
+// RUN, LINK, CHECK, CANCEL, SUSPEND, RESUME and FORCE TIMER of what a request has acquired.
+ghost use Rattle.std.specs.Prelude.{◌≡◌, ◌<◌, ◌-◌, ◌^◌, ◌&&◌, IsSome, IsTrue, OnOk, OnErr, None, Ok, true, false};
 ghost use Rattle.bts_tree.specs.Activities as activities;
+ghost use Rattle.bts_tree.specs.Processes.{activity_at};
 ghost use Rattle.bts_tree.specs.Scopes.{holding};
 ghost use Rattle.bts_tree.specs.Soundness.{numbers_below};
 ghost use Rattle.bts_rows.specs.ActRows.{force_timer_row};
@@ -14,7 +15,7 @@ use crate::acquired::find_target;
 use bts_act::{fire_unfired, force_timer, normal_reply, refused};
 use bts_command::Target;
 use bts_event::{Event, EventPool, Trigger};
-use bts_names::{Mode, Name16, NoMemory, Reason, Reply, Resp, Value};
+use bts_names::{Mode, Name16, NoMemory, Path, Reason, Reply, Resp, Status, Value};
 use bts_rows::Held;
 use bts_tree::{Activity, Scope};
 
@@ -149,6 +150,33 @@ fn check_activity(activity: &Activity) -> Reply
         suspended: activity.suspended,
         code: activity.code,
     })
+}
+
+/// CANCEL. Its time grows with the number of activities of the process, and with what those that it ends lose.
+pub(crate) fn cancel(scope: &mut Scope, held: Held, target: &Target) -> Reply
+    ensures row { Does (Ok result) scope.old.process scope.new.process
+        (rows.cancel_row (in_request held) scope.old.process target.now) }
+    ensures rest { scope.new ≡ holding scope.new.process scope.old }
+{
+    scope.facts();
+    match find_target(scope, held, target) {
+        Ok(path) => cancel_at(scope, &path),
+        Err(refusal) => refusal.reply(),
+    }
+}
+
+fn cancel_at(scope: &mut Scope, path: &Path) -> Reply
+    requires { IsSome (activity_at path.now scope.old.process) }
+    ensures row { Does (Ok result) scope.old.process scope.new.process
+        (on.cancel path.now scope.old.process (activity_at path.now scope.old.process)) }
+    ensures rest { scope.new ≡ holding scope.new.process scope.old }
+{
+    scope.facts();
+    if scope.activity(path).unwrap().is_complete() {
+        return refused(Resp::Activityerr, Reason::Mode);
+    }
+    scope.complete(path, Status::Forced, None);
+    normal_reply(Value::Nothing)
 }
 
 /// SUSPEND and RESUME.

@@ -52,7 +52,7 @@ enum Step {
     Resume(At),
     Force(At),
     Reattach,
-    Cancel,
+    Cancel(At),
     /// The next request begins.
     Again,
     /// The root is brought into a mode.
@@ -139,7 +139,7 @@ fn command_on_activity(step: Step) -> Option<Command>
         Step::Suspend(at) => suspend(at),
         Step::Resume(at) => resume(at),
         Step::Reattach => Some(Command::RetrieveReattach),
-        Step::Cancel => cancel(),
+        Step::Cancel(at) => cancel(at),
         _ => None,
     }
 }
@@ -323,17 +323,12 @@ fn force(at: At) -> Option<Command>
     })
 }
 
-fn cancel() -> Option<Command>
+fn cancel(at: At) -> Option<Command>
     ensures given { IfSome result (λ c. IsGiven c) }
     ensures today { IfSome result (λ c. IsTrue (is_of_request c)) }
 {
-    let name = named("A");
-    if !is_free(name) {
-        return None;
-    }
-    Some(Command::Cancel {
-        target: Target::Activity(name),
-    })
+    let target = target_of(at)?;
+    Some(Command::Cancel { target })
 }
 
 /// Changes the root from outside.
@@ -633,7 +628,31 @@ fn timers_are_forced_where_they_are_acquired(rt: HostRuntime) -> Result<(), Fail
             Want::Refused(Resp::Timererr, Reason::Ended),
         ),
         (Step::Reattach, PLACE),
-        (Step::Cancel, PLACE),
+        (Step::Cancel(At::Child), PLACE),
+    ];
+    assert_eq!(rt; first_wrong(alloc, &play), None);
+    Ok(())
+}
+
+#[test]
+fn a_cancelled_root_is_complete(rt: HostRuntime) -> Result<(), Fail> {
+    let alloc = rt.alloc();
+    let play = [
+        (Step::Cancel(At::Root), NOT_ACQUIRED),
+        (Step::Define, Want::Normal),
+        (Step::Cancel(At::Acquired), NOT_ACQUIRED),
+        (Step::Run, Want::Normal),
+        (Step::Timer, Want::Normal),
+        (Step::Cancel(At::Root), Want::Normal),
+        (Step::Check(At::Root), Want::Is(Mode::Complete, false)),
+        (
+            Step::Cancel(At::Root),
+            Want::Refused(Resp::Activityerr, Reason::Mode),
+        ),
+        (
+            Step::Force(At::Root),
+            Want::Refused(Resp::Timererr, Reason::Missing),
+        ),
     ];
     assert_eq!(rt; first_wrong(alloc, &play), None);
     Ok(())

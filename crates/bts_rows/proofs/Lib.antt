@@ -18,6 +18,7 @@ pub mod Frames
 pub mod Local
 pub mod FamilyFrames
 pub mod ActSound
+pub mod Completing
 pub mod RunSound
 pub mod RequestSound
 pub mod Proper

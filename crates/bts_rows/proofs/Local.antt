@@ -155,7 +155,7 @@ module _ (p q : ActivityPath) (l : leads_to p q ≡ true) where
   -- ---- activities become COMPLETE
 
   module _ (status : Status) (code : Option Name) where
-    completes_none : (x : ActivityPath × Activity) → leads_to q x.0 ≡ false → completed_one q status code x ≡ x.1
+    pub completes_none : (x : ActivityPath × Activity) → leads_to q x.0 ≡ false → completed_one q status code x ≡ x.1
     completes_none x h = by (same q x.0) refl
       where
         by : (b : Bool) → same q x.0 ≡ b → cond b (completed status code (same q []) x.1) (cond (leads_to q x.0) (forced x.1) x.1) ≡ x.1

@@ -18,7 +18,7 @@ use Rattle.bts_rows.specs.declared.held.Held.{Held}
 use Rattle.bts_rows.specs.Targets.{in_request}
 use Rattle.bts_rows.specs.Given.{IsGiven}
 use Rattle.bts_rows.specs.ActRows.{act_row}
-use Rattle.bts_rows.specs.FamilyRows.{family_row, leaves_modes}
+use Rattle.bts_rows.specs.FamilyRows.{family_row, resets}
 use Rattle.bts_rows.specs.RequestRows as row
 use Rattle.bts_rows.specs.Rows as rows
 use Rattle.bts_rows.specs.Rows.{keeping, request_in}
@@ -99,11 +99,11 @@ module _ (s : Process) (h : Held) (depth now : ℕ) (c : Command) where
   parts_sound false true x y z p q r = q
   parts_sound false false x y z p q r = r
 
-  -- a command in a request's first frame, where it leaves the modes of what is acquired
-  pub request_in_sound : IsSoundInFrames [] s → IsGiven c → leaves_modes c ≡ true → LeavesPair s h (request_in h depth now s c)
+  -- a command in a request's first frame, but for RESET of what is acquired
+  pub request_in_sound : IsSoundInFrames [] s → IsGiven c → resets c ≡ false → LeavesPair s h (request_in h depth now s c)
   unfolding rows.row
   request_in_sound sound g l =
       parts_sound (nat_le (command_number c) 4) (nat_le (command_number c) 13) _ _ _
       (request_row_sound s h sound c)
-      (keeping_sound (family_row (in_request h) depth s c) (family_row_sound [] s sound h depth c l))
+      (keeping_sound (family_row (in_request h) depth s c) (family_row_sound s sound h depth c l))
       (keeping_sound (act_row (in_request h) now s c) (act_row_sound [] s sound (in_request h) now c tt g))

@@ -1,10 +1,11 @@
--- The commands on a target that leave its mode keep a process sound.
-use Rattle.std.proofs.Common.{◌≡◌, ℕ, Bool, true, false, cond, ◌&&◌, nat_le, List, Option, Some, None, is_some, is_none, refl}
+-- The commands on activities keep a process sound, in a request's first frame.
+use Rattle.std.proofs.Common.{◌≡◌, ℕ, Bool, true, false, cond, ◌&&◌, nat_le, List, [], Option, Some, None, is_some, is_none, refl}
 use Rattle.bts_names.specs.Names.{Name, ActivityPath}
 use Rattle.bts_names.specs.Named.{lookup}
 use Rattle.bts_names.specs.Answer.{Answer}
 use Rattle.bts_names.specs.declared.reply.Resp.TheVariants as resp
 use Rattle.bts_names.specs.declared.reply.Reason.TheVariants as reason
+use Rattle.bts_names.specs.declared.state.Status.TheVariants as status
 use Rattle.bts_command.specs.declared.command.Command.{Command}
 use Rattle.bts_command.specs.declared.command.Command.TheVariants as command
 use Rattle.bts_command.specs.declared.command.Target.{Target}
@@ -27,6 +28,7 @@ use Rattle.bts_rows.specs.declared.held.Held.{Held}
 use Rattle.bts_rows.specs.Targets.{Here, in_request}
 use Rattle.bts_rows.specs.FamilyRows as row
 use Rattle.bts_rows.proofs.ActSound.{LeavesSound, own_sound, sound_edited, sound_for, sound_target, sound_when}
+use Rattle.bts_rows.proofs.Completing.{complete_keeps_soundness}
 use Rattle.bts_rows.proofs.Fits.{fits_pool, sound_fire}
 use Rattle.bts_rows.proofs.InPlace.{FitsIn}
 use Rattle.bts_rows.proofs.Keeps.{Keeps, is_owned, is_picked, keeps_same}
@@ -107,32 +109,36 @@ module _ (frames : List ActivityPath) (s : Process) (sound : IsSoundInFrames fra
       sound_when frames s sound resp.Activityerr reason.Mode (is_complete a) _ λ m.
       sound_edited frames s sound p (λ b. record b { suspended = to }) a h (fits_suspended to a (own_sound frames s sound p a h))
 
-  -- a child isn't checked in a request's first frame, and no other target is changed
-  check_sound : (h : Held) (target : Target) → Leaves (row.check_row (in_request h) s target)
+-- ---- in a request's first frame, where no other frame is open
+
+module _ (s : Process) (sound : IsSoundInFrames [] s) where
+  -- a child isn't checked there, and no other target is changed
+  check_sound : (h : Held) (target : Target) → Leaves [] s sound (row.check_row (in_request h) s target)
   check_sound h (of.Activity a) = sound
-  check_sound h of.AcqProcess = sound_target frames s sound (in_request h) of.AcqProcess _ λ p a e. sound
-  check_sound h of.AcqActivity = sound_target frames s sound (in_request h) of.AcqActivity _ λ p a e. sound
+  check_sound h of.AcqProcess = sound_target [] s sound (in_request h) of.AcqProcess _ λ p a e. sound
+  check_sound h of.AcqActivity = sound_target [] s sound (in_request h) of.AcqActivity _ λ p a e. sound
 
-  cancel_sound : (h : Held) (target : Target) → row.is_child target ≡ true → Leaves (row.cancel_row (in_request h) s target)
-  cancel_sound h (of.Activity a) e = sound
-  cancel_sound h of.AcqProcess e = cc
-  cancel_sound h of.AcqActivity e = cc
+  cancel_sound : (h : Held) (target : Target) → Leaves [] s sound (row.cancel_row (in_request h) s target)
+  cancel_sound h target =
+      sound_target [] s sound (in_request h) target _ λ p a there.
+      sound_when [] s sound resp.Activityerr reason.Mode (is_complete a) _ λ running.
+      complete_keeps_soundness [] p status.Forced None s a refl refl (λ q open_there. cc) sound there running
 
-  reset_sound : (h : Held) (target : Target) → row.is_child target ≡ true → Leaves (row.reset_row (in_request h) s target)
+  reset_sound : (h : Held) (target : Target) → row.resets (command.Reset target) ≡ false → Leaves [] s sound (row.reset_row (in_request h) s target)
   reset_sound h (of.Activity a) e = sound
   reset_sound h of.AcqProcess e = cc
   reset_sound h of.AcqActivity e = cc
 
-  -- each of commands 5 to 13 in a request's first frame, where it leaves the modes
-  pub family_row_sound : (h : Held) (depth : ℕ) (c : Command) → row.leaves_modes c ≡ true → Leaves (row.family_row (in_request h) depth s c)
+  -- each of commands 5 to 13, but for RESET of what is acquired
+  pub family_row_sound : (h : Held) (depth : ℕ) (c : Command) → row.resets c ≡ false → Leaves [] s sound (row.family_row (in_request h) depth s c)
   unfolding row.family_row
   family_row_sound h depth (command.DefineActivity a e transid program) l = sound
   family_row_sound h depth (command.DeleteActivity a) l = sound
-  family_row_sound h depth (command.Run target synchronous e) l = run_sound (in_request h) depth target synchronous e
-  family_row_sound h depth (command.Link target e) l = run_sound (in_request h) depth target true e
+  family_row_sound h depth (command.Run target synchronous e) l = run_sound [] s sound (in_request h) depth target synchronous e
+  family_row_sound h depth (command.Link target e) l = run_sound [] s sound (in_request h) depth target true e
   family_row_sound h depth (command.Check target) l = check_sound h target
-  family_row_sound h depth (command.Cancel target) l = cancel_sound h target l
+  family_row_sound h depth (command.Cancel target) l = cancel_sound h target
   family_row_sound h depth (command.Reset target) l = reset_sound h target l
-  family_row_sound h depth (command.Suspend target) l = suspension_sound true (in_request h) target
-  family_row_sound h depth (command.Resume target) l = suspension_sound false (in_request h) target
+  family_row_sound h depth (command.Suspend target) l = suspension_sound [] s sound true (in_request h) target
+  family_row_sound h depth (command.Resume target) l = suspension_sound [] s sound false (in_request h) target
   family_row_sound h depth _ l = sound

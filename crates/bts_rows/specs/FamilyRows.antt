@@ -173,8 +173,7 @@ family_row here depth s (command.Suspend target) = suspension_row true here s ta
 family_row here depth s (command.Resume target) = suspension_row false here s target
 family_row here depth s _ = refused resp.Invreq reason.Place
 
--- whether a command leaves the modes of what a request has acquired
-abbrev pub leaves_modes : Command → Bool
-leaves_modes (command.Cancel target) = is_child target
-leaves_modes (command.Reset target) = is_child target
-leaves_modes _ = true
+-- whether a command resets what a request has acquired
+abbrev pub resets : Command → Bool
+resets (command.Reset target) = not (is_child target)
+resets _ = false

@@ -10,7 +10,7 @@ ghost use Rattle.bts_command.specs.declared.command.Command.{Command};
 ghost use Rattle.bts_tree.specs.Processes.{Process, activities, activity_at};
 ghost use Rattle.bts_tree.specs.Soundness.{IsSoundInFrames};
 ghost use Rattle.bts_rows.specs.ActRows.{act_row};
-ghost use Rattle.bts_rows.specs.FamilyRows.{family_row, leaves_modes};
+ghost use Rattle.bts_rows.specs.FamilyRows.{family_row, resets};
 ghost use Rattle.bts_rows.specs.Given.{IsGiven};
 ghost use Rattle.bts_rows.specs.Replies.{IsProper, is_normal};
 ghost use Rattle.bts_rows.specs.Rows.{act_at, answer, family_at, request_in};
@@ -41,10 +41,10 @@ pub fn commands_of_one_activity_keep_soundness()
         → IsSoundInFrames frames (left_by s (act_row (in_request held) now s c)) }
 {}
 
-/// In a request's first frame, where no other frame is open, each command but CANCEL and RESET of what is acquired
-/// leaves a sound process sound.
+/// In a request's first frame, where no other frame is open, each command but RESET of what is acquired leaves a
+/// sound process sound.
 pub fn commands_of_a_request_keep_soundness()
-    ensures { (held : Held) (depth now : ℕ) (s : Process) (c : Command) → IsGiven c → leaves_modes c ≡ true
+    ensures { (held : Held) (depth now : ℕ) (s : Process) (c : Command) → IsGiven c → resets c ≡ false
         → IsSoundInFrames [] s → IsSoundInFrames [] (left_by (s, held) (request_in held depth now s c)).0 }
 {}
 

@@ -35,6 +35,11 @@ unfolding on.row
 returns-in-Check-clause-row c =
     subst (λ x. Does (Ok c.check.result) c.args.scope.now.process c.args.scope.now.process (on.row c.args.held c.args.depth c.args.scope.now.process x)) (sym c.in-Check.is) c.check.ensures
 
+pub returns-in-Cancel-clause-row : goal.returns-in-Cancel-clause-row
+unfolding on.row
+returns-in-Cancel-clause-row c =
+    subst (λ x. Does (Ok c.cancel.result) c.args.scope.now.process c.cancel.new.scope.process (on.row c.args.held c.args.depth c.args.scope.now.process x)) (sym c.in-Cancel.is) c.cancel.ensures.row
+
 pub returns-in-Suspend-clause-row : goal.returns-in-Suspend-clause-row
 unfolding on.row
 returns-in-Suspend-clause-row c =
@@ -56,6 +61,7 @@ returns-in_default c =
       run = c.in_default.not-Run;
       link = c.in_default.not-Link;
       check = c.in_default.not-Check;
+      cancel = c.in_default.not-Cancel;
       suspend = c.in_default.not-Suspend;
       resume = c.in_default.not-Resume;
       put = c.in_default.not-PutContainer;
