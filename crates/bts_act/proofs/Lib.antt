@@ -6,3 +6,4 @@ pub mod Stores
 pub mod GivenNames
 pub mod Forced
 pub mod Kept
+pub mod Late

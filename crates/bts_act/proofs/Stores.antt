@@ -36,7 +36,7 @@ module _ (p : ActivityPath) (s : Process) where
   abbrev pub AtPath : Type 0
   AtPath = ActivityPath → Answer Process
 
-  there_case : (o : Option Activity) (q : ActivityPath) (rest : AtPath) → at_some resp.Activityerr reason.Missing o (λ a. rest q) ≡ at_found (cond (is_some o) (Ok q) (Err missing)) rest
+  pub there_case : (o : Option Activity) (q : ActivityPath) (rest : AtPath) → at_some resp.Activityerr reason.Missing o (λ a. rest q) ≡ at_found (cond (is_some o) (Ok q) (Err missing)) rest
   there_case None q rest = refl
   there_case (Some a) q rest = refl
 
@@ -53,7 +53,7 @@ module _ (p : ActivityPath) (s : Process) where
   abbrev with_activity : targets.AtActivity → AtPath
   with_activity rest u = at_some resp.Activityerr reason.Missing (activity_at u s) (rest u)
 
-  rest_case : (o : Option Activity) (q : ActivityPath) (rest : targets.AtActivity) → activity_at q s ≡ o → with_activity rest q ≡ at_found (cond (is_some o) (Ok q) (Err missing)) (with_activity rest)
+  pub rest_case : (o : Option Activity) (q : ActivityPath) (rest : targets.AtActivity) → activity_at q s ≡ o → with_activity rest q ≡ at_found (cond (is_some o) (Ok q) (Err missing)) (with_activity rest)
   rest_case None q rest e = ap (λ x. at_some resp.Activityerr reason.Missing x (rest q)) e
   rest_case (Some a) q rest e = refl
 
@@ -66,7 +66,7 @@ module _ (p : ActivityPath) (s : Process) where
   target_rest of.AcqProcess rest = refl
   target_rest of.AcqActivity rest = refl
 
-  store_case : (r : Result ActivityPath Refusal) (rest : targets.Store → Answer Process) → at_found r (λ q. rest (targets.of_activity q)) ≡ at_found (store_at r) (λ st. rest (tabled st))
+  pub store_case : (r : Result ActivityPath Refusal) (rest : targets.Store → Answer Process) → at_found r (λ q. rest (targets.of_activity q)) ≡ at_found (store_at r) (λ st. rest (tabled st))
   store_case (Ok q) rest = refl
   store_case (Err why) rest = refl
 
@@ -93,7 +93,7 @@ module _ (p : ActivityPath) (s : Process) where
   target_there of.AcqProcess r h = cc
   target_there of.AcqActivity r h = cc
 
-  stored_there : (r : Result ActivityPath Refusal) (st : Store) → ((q : ActivityPath) → r ≡ Ok q → is_some (activity_at q s) ≡ true) → store_at r ≡ Ok st → IsThere st s
+  pub stored_there : (r : Result ActivityPath Refusal) (st : Store) → ((q : ActivityPath) → r ≡ Ok q → is_some (activity_at q s) ≡ true) → store_at r ≡ Ok st → IsThere st s
   stored_there (Ok q) store.Process f h = cc
   stored_there (Ok q) (store.Activity r) f h = let i : q ≡ r = cc in ap (λ x. is_some (activity_at x s)) (sym i) ∙ f q refl
   stored_there (Err why) st f h = cc

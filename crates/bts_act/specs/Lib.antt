@@ -1,4 +1,5 @@
 pub mod Does
+pub mod Early
 pub mod OnActivity
 pub mod OnContainers
 pub mod Replies

@@ -10,6 +10,7 @@ ghost use Rattle.bts_rows.specs.Given.{IsGiven};
 ghost use Rattle.bts_rows.specs.Rows.{act_at};
 ghost use Rattle.bts_rows.specs.Targets.{in_activity, stored};
 ghost use Rattle.bts_act.specs.Does.{Does};
+ghost use Rattle.bts_act.specs.Early.{none_early};
 ghost use Rattle.bts_act.specs.OnActivity as on;
 ghost use Rattle.bts_act.specs.OnContainers as containers;
 ghost use Rattle.bts_act.specs.Places.{tabled, IsThere};
@@ -28,8 +29,8 @@ use bts_tree::{Activity, Scope};
 use std::alloc::Global;
 
 /// Does a command on containers, events or timers in the frame of the activity at a path: the reply and what
-/// is left are exactly its row. Its time grows with the pool that it changes; only a command that names a child
-/// looks through the activities of the process.
+/// is left are exactly its row. In a sound process no event is fired while its timer is UNEXPIRED. Its time grows
+/// with the pool that it changes; only a command that names a child looks through the activities of the process.
 pub fn act(
     scope: &mut Scope,
     alloc: Global,
@@ -39,6 +40,7 @@ pub fn act(
 ) -> Result<Reply, NoMemory>
     requires there { IsSome (activity_at at.now scope.old.process) }
     requires numbers { IsTrue (numbers_below (2 ^ 64 - 1) scope.old.process) }
+    requires late { IsTrue (none_early scope.old.process) }
     requires number { IsTrue (nat_le 14 (command_number command.now) && nat_le (command_number command.now) 28) }
     requires given { IsGiven command.now }
     ensures row { Does result scope.old.process scope.new.process (act_at at.now moment scope.old.process command.now) }
@@ -60,6 +62,7 @@ fn perform(
 ) -> Result<Reply, NoMemory>
     requires there { IsSome (activity_at at.now scope.old.process) }
     requires numbers { IsTrue (numbers_below (2 ^ 64 - 1) scope.old.process) }
+    requires late { IsTrue (none_early scope.old.process) }
     requires number { IsTrue (nat_le 14 (command_number command.now) && nat_le (command_number command.now) 28) }
     requires given { IsGiven command.now }
     ensures row { Does result scope.old.process scope.new.process
@@ -142,6 +145,7 @@ fn force(
 ) -> Result<Reply, NoMemory>
     requires there { IsSome (activity_at at.now scope.old.process) }
     requires numbers { IsTrue (numbers_below (2 ^ 64 - 1) scope.old.process) }
+    requires late { IsTrue (none_early scope.old.process) }
     ensures row { Does result scope.old.process scope.new.process
         (rows.force_timer_row (in_activity at.now) scope.old.process timer target.now) }
     ensures rest { scope.new ≡ holding scope.new.process scope.old }
@@ -177,7 +181,8 @@ fn put(
     }
 }
 
-fn put_in(
+/// PUT CONTAINER into containers that are there.
+pub fn put_in(
     scope: &mut Scope,
     alloc: Global,
     store: Store,
@@ -217,7 +222,13 @@ fn get(
     }
 }
 
-fn get_in(scope: &Scope, alloc: Global, store: Store, container: Name16) -> Result<Reply, NoMemory>
+/// GET CONTAINER from containers that are there.
+pub fn get_in(
+    scope: &Scope,
+    alloc: Global,
+    store: Store,
+    container: Name16,
+) -> Result<Reply, NoMemory>
     requires { IsThere store scope.now.process }
     ensures { Does result scope.now.process scope.now.process
         (containers.lifted store scope.now.process
@@ -249,7 +260,8 @@ fn delete(scope: &mut Scope, at: &Path, container: Name16, spot: &Spot) -> Reply
     }
 }
 
-fn delete_in(scope: &mut Scope, store: Store, container: Name16) -> Reply
+/// DELETE CONTAINER from containers that are there.
+pub fn delete_in(scope: &mut Scope, store: Store, container: Name16) -> Reply
     requires { IsThere store scope.old.process }
     ensures row { Does (Ok result) scope.old.process scope.new.process
         (containers.lifted store scope.old.process

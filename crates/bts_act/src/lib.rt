@@ -6,12 +6,17 @@
 
 mod commands;
 mod containers;
+mod early;
 mod events;
 mod places;
 mod replies;
 mod timers;
 
-pub use commands::act;
+pub use commands::{act, delete_in, get_in, put_in};
+pub use early::none_is_early;
+pub use places::Store;
+pub use replies::{Refusal, normal_reply, refused};
+pub use timers::{fire_unfired, force_timer};
 
 #[cfg(test)]
 mod tests;

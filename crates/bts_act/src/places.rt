@@ -11,8 +11,10 @@ use bts_tree::Scope;
 
 /// Where containers are.
 #[derive(Clone, Copy, Debug)]
-pub(crate) enum Store {
+pub enum Store {
+    /// With the process.
     Process,
+    /// With the activity at a path.
     Activity(Path),
 }
 

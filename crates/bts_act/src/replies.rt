@@ -7,20 +7,22 @@ use bts_names::{NoMemory, Reason, Reply, Resp, Value};
 
 /// Why a command is refused.
 #[derive(Clone, Copy, Debug)]
-pub(crate) struct Refusal {
+pub struct Refusal {
     pub resp: Resp,
     pub reason: Reason,
 }
 
 impl Refusal {
-    pub(crate) fn reply(self) -> Reply
+    /// The reply of a command that is refused so.
+    pub fn reply(self) -> Reply
         ensures { result ≡ refusal self.resp self.reason }
     {
         refused(self.resp, self.reason)
     }
 }
 
-pub(crate) fn normal_reply(value: Value) -> Reply
+/// The reply of a command that was done.
+pub fn normal_reply(value: Value) -> Reply
     ensures { result ≡ normal value }
 {
     Reply {
@@ -30,7 +32,8 @@ pub(crate) fn normal_reply(value: Value) -> Reply
     }
 }
 
-pub(crate) fn refused(resp: Resp, reason: Reason) -> Reply
+/// The reply of a command that was refused.
+pub fn refused(resp: Resp, reason: Reason) -> Reply
     ensures { result ≡ refusal resp reason }
 {
     Reply {

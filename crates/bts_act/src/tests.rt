@@ -5,12 +5,14 @@ ghost use Rattle.bts_command.specs.Numbers.{command_number};
 ghost use Rattle.bts_tree.specs.Soundness.{numbers_below};
 ghost use Rattle.bts_rows.specs.Given.{IsGiven, is_systems};
 
-use crate::act;
+use crate::{act, none_is_early};
 use bts_command::{Command, Due, Names, Spot};
+use bts_event::{Event, Trigger};
 use bts_names::{
     Blob, EventKind, Key, Moment, Name16, Path, ProcName, ProcType, ProgName, Reason, Reply, Resp,
     TimerStatus, Transid, Value,
 };
+use bts_timer::TimerPool;
 use bts_tree::{Activity, Scope};
 use std::alloc::Global;
 use std::collections::BTreeMap;
@@ -290,7 +292,7 @@ fn answers(alloc: Global, scope: &mut Scope, step: Step, want: Want) -> bool {
     let Some(command) = command_of(alloc, step) else {
         return false;
     };
-    if scope.activity(&root).is_none() || !numbered(scope) {
+    if scope.activity(&root).is_none() || !numbered(scope) || !none_is_early(scope) {
         return false;
     }
     match act(scope, alloc, &root, Moment::first(), &command) {

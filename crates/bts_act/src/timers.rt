@@ -1,16 +1,19 @@
 // The commands on timers, as they are done on one activity.
-ghost use Rattle.std.specs.Prelude.{◌≡◌, ◌<◌, ◌-◌, ◌^◌, false, None, IsSome, OnOk, OnErr};
+ghost use Rattle.std.specs.Prelude.{◌≡◌, ◌<◌, ◌-◌, ◌^◌, false, true, None, IsSome, OnOk, OnErr};
 ghost use Rattle.std.specs.Option.{unwrap_or};
 ghost use Rattle.bts_names.specs.Answer.{reply_of, left_by};
 ghost use Rattle.bts_names.specs.Names.{same, initial_name};
 ghost use Rattle.bts_names.specs.Named.{lookup};
-ghost use Rattle.bts_event.specs.Refusals.{define_refusal};
+ghost use Rattle.bts_event.specs.Pool.{fired};
+ghost use Rattle.bts_event.specs.Refusals.{define_refusal, fire_refusal};
 ghost use Rattle.bts_rows.specs.ActRows as rows;
 ghost use Rattle.bts_act.specs.Does.{Does};
+ghost use Rattle.bts_act.specs.Early.{has_none_early};
 ghost use Rattle.bts_act.specs.OnActivity as on;
 
 use crate::replies::{normal_reply, refused};
 use bts_command::Due;
+use bts_event::{EventPool, PoolError};
 use bts_names::{Moment, Name16, NoMemory, Reason, Reply, Resp, Value};
 use bts_tree::Activity;
 
@@ -77,10 +80,13 @@ fn start_timer(
     Ok(())
 }
 
-pub(crate) fn force_timer(activity: &mut Activity, timer: Name16) -> Result<Reply, NoMemory>
-    requires { activity.old.pool.last < 2 ^ 64 - 1 }
+/// FORCE TIMER of a timer of an activity.
+pub fn force_timer(activity: &mut Activity, timer: Name16) -> Result<Reply, NoMemory>
+    requires below { activity.old.pool.last < 2 ^ 64 - 1 }
+    requires late { has_none_early activity.old ≡ true }
     ensures { Does result activity.old activity.new (on.force_timer timer activity.old) }
 {
+    activity.pool.facts();
     let Some(found) = activity.timers.get(timer) else {
         return Ok(refused(Resp::Timererr, Reason::Missing));
     };
@@ -88,12 +94,24 @@ pub(crate) fn force_timer(activity: &mut Activity, timer: Name16) -> Result<Repl
         return Ok(refused(Resp::Timererr, Reason::Ended));
     }
     if let Some(event) = activity.pool.event_of(timer) {
-        if activity.pool.fire(event).is_err() {
-            return Err(NoMemory);
-        }
+        fire_unfired(&mut activity.pool, event)?;
     }
     let _ = activity.timers.force(timer);
     Ok(normal_reply(Value::Nothing))
+}
+
+/// Fires an event that may be fired: it fails only for want of memory.
+pub fn fire_unfired(pool: &mut EventPool, event: Name16) -> Result<(), NoMemory>
+    requires below { pool.old.last < 2 ^ 64 - 1 }
+    requires unfired { fire_refusal event pool.old.events ≡ None }
+    ensures ok { OnOk result (pool.new ≡ fired event pool.old) }
+    ensures err { OnErr result (pool.new ≡ pool.old) }
+{
+    match pool.fire(event) {
+        Ok(()) => Ok(()),
+        Err(PoolError::NoMemory) => Err(NoMemory),
+        Err(PoolError::Refused(_)) => unreachable!(),
+    }
 }
 
 pub(crate) fn check_timer(activity: &mut Activity, timer: Name16) -> Result<Reply, NoMemory>

@@ -95,20 +95,20 @@ define_allowed : (e : Name) (es : Events) → is_there e es ≡ false → refusa
 define_allowed e es h g = rw (h, g)
 
 module _ (frames : List ActivityPath) (s : Process) (sound : IsSoundInFrames frames s) where
-  abbrev LeavesSound : Answer Process → Type 0
+  abbrev pub LeavesSound : Answer Process → Type 0
   LeavesSound x = IsSoundInFrames frames (left_by s x)
 
   -- ---- refusals
 
-  sound_when : (r : Resp) (why : Reason) (b : Bool) (rest : Answer Process) → (b ≡ false → LeavesSound rest) → LeavesSound (refuse r because why when b otherwise rest)
+  pub sound_when : (r : Resp) (why : Reason) (b : Bool) (rest : Answer Process) → (b ≡ false → LeavesSound rest) → LeavesSound (refuse r because why when b otherwise rest)
   sound_when r why true rest f = sound
   sound_when r why false rest f = f refl
 
-  sound_for : (r : Resp) (o : Option Reason) (rest : Answer Process) → (o ≡ None → LeavesSound rest) → LeavesSound (refuse r for o otherwise rest)
+  pub sound_for : (r : Resp) (o : Option Reason) (rest : Answer Process) → (o ≡ None → LeavesSound rest) → LeavesSound (refuse r for o otherwise rest)
   sound_for r (Some why) rest f = sound
   sound_for r None rest f = f refl
 
-  sound_some : {A : Type 0} (r : Resp) (why : Reason) (o : Option A) (rest : A → Answer Process) → ((x : A) → o ≡ Some x → LeavesSound (rest x)) → LeavesSound (at_some r why o rest)
+  pub sound_some : {A : Type 0} (r : Resp) (why : Reason) (o : Option A) (rest : A → Answer Process) → ((x : A) → o ≡ Some x → LeavesSound (rest x)) → LeavesSound (at_some r why o rest)
   sound_some r why None rest f = sound
   sound_some r why (Some x) rest f = f x refl
 
@@ -132,7 +132,7 @@ module _ (frames : List ActivityPath) (s : Process) (sound : IsSoundInFrames fra
   sound_named (none r why) rest f = sound
   sound_named (path p) rest f = sound_path p rest f
 
-  sound_target : (here : Here) (target : Target) (rest : AtActivity) → OfActivity rest → LeavesSound (at_target here s target rest)
+  pub sound_target : (here : Here) (target : Target) (rest : AtActivity) → OfActivity rest → LeavesSound (at_target here s target rest)
   sound_target here target rest f = sound_named (named_by here s target) rest f
 
   has_tree_at : (p : ActivityPath) → is_some (activity_at p s) ≡ true → has_tree s ≡ true
@@ -148,10 +148,10 @@ module _ (frames : List ActivityPath) (s : Process) (sound : IsSoundInFrames fra
 
   -- ---- what is done
 
-  own_sound : (p : ActivityPath) (a : Activity) → activity_at p s ≡ Some a → IsSoundActivity a
+  pub own_sound : (p : ActivityPath) (a : Activity) → activity_at p s ≡ Some a → IsSoundActivity a
   own_sound p a h = (stands_at frames s p a sound h).own
 
-  sound_edited : (p : ActivityPath) (f : Activity → Activity) (a : Activity) → activity_at p s ≡ Some a → FitsIn a (f a) → IsSoundInFrames frames (edited p f s)
+  pub sound_edited : (p : ActivityPath) (f : Activity → Activity) (a : Activity) → activity_at p s ≡ Some a → FitsIn a (f a) → IsSoundInFrames frames (edited p f s)
   sound_edited p f a h fits = edited_keeps_soundness frames s p f a sound h fits
 
   process_case : (o : Option Activities) (cs : Containers) → is_some o ≡ true → IsSoundUnder s o → let t : Process = record s { containers = cs } in IsSoundUnder t o

@@ -39,7 +39,7 @@ module _ (q : ActivityPath) (f : Activity → Activity) where
   front_case true x t u h i = cc
   front_case false x t u h i = ap (λ r. x ∷ r) (i h)
 
-  changed_front : (t u : Activities) → lookup q t ≡ None → changed_at q f (t ++ u) ≡ t ++ changed_at q f u
+  pub changed_front : (t u : Activities) → lookup q t ≡ None → changed_at q f (t ++ u) ≡ t ++ changed_at q f u
   changed_front [] u h = refl
   changed_front (x ∷ t) u h = changed_at-cons x (t ++ u) ∙ front_case (same q x.0) x t u h (changed_front t u)
 
@@ -48,7 +48,7 @@ module _ (q : ActivityPath) (f : Activity → Activity) where
   back_case true x t u r i = refl
   back_case false x t u r i = ap (λ z. x ∷ z) i
 
-  changed_back : (t u : Activities) → lookup q u ≡ None → changed_at q f (t ++ u) ≡ changed_at q f t ++ u
+  pub changed_back : (t u : Activities) → lookup q u ≡ None → changed_at q f (t ++ u) ≡ changed_at q f t ++ u
   changed_back [] u h = changed_none u h
   changed_back (x ∷ t) u h =
       changed_at-cons x (t ++ u) ∙ back_case (same q x.0) x t u (changed_at q f t) (changed_back t u h) ∙ ap (λ z. z ++ u) (sym (changed_at-cons x t))
@@ -62,7 +62,7 @@ missing_one test q x u true false e d h i = rw d i
 missing_one test q x u false c e d h i = i
 
 -- a path that fails a test isn't among those that pass it
-missing : (test : ActivityPath → Bool) (q : ActivityPath) (t : Activities) → test q ≡ false → lookup q (filter (λ x. test x.0) t) ≡ None
+pub missing : (test : ActivityPath → Bool) (q : ActivityPath) (t : Activities) → test q ≡ false → lookup q (filter (λ x. test x.0) t) ≡ None
 missing test q [] h = refl
 missing test q (x ∷ t) h = missing_one test q x (filter (λ y. test y.0) t) (test x.0) (same q x.0) refl refl h (missing test q t h)
 

@@ -31,7 +31,7 @@ module _ {X : Type 0} where
 
   -- ---- the first entry, and those behind it
 
-  here : (e : Name × X) (es : Entries X) → lookup e.0 (e ∷ es) ≡ Some e.1
+  pub here : (e : Name × X) (es : Entries X) → lookup e.0 (e ∷ es) ≡ Some e.1
   here e es = ap (λ b. cond b (Some e.1) (lookup e.0 es)) (same_refl e.0)
 
   apart_case : (b : Bool) (e x : Name × X) (n : Name) (v : X) (o : Option X) → same n x.0 ≡ b → same e.0 x.0 ≡ false → cond b (Some x.1) o ≡ Some v → (o ≡ Some v → same n e.0 ≡ false) → same n e.0 ≡ false

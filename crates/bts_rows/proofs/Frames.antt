@@ -60,7 +60,7 @@ module _ {A B : Type 0} (f : A → B) where
 
 -- ---- in the frame of the activity at a path
 
-found_passes : {X : Type 0} (f : X → Bool) (xs : List X) (x : X) → find f xs ≡ Some x → f x ≡ true
+pub found_passes : {X : Type 0} (f : X → Bool) (xs : List X) (x : X) → find f xs ≡ Some x → f x ≡ true
 found_passes f [] x h = cc
 found_passes f (y ∷ ys) x h = by (f y) refl h (found_passes f ys x)
   where
@@ -292,7 +292,7 @@ pub act_on_whole : (p : ActivityPath) (now : ℕ) (s : Process) (c : Command) �
 act_on_whole [] now s c order = mapped_same (join [] s) (λ x. refl) (row.act_row (in_activity []) now (part [] s) c) ∙ ap (λ z. row.act_row (in_activity []) now z c) (part_root s)
 act_on_whole (n ∷ p) now s c order = row_joined n p s order now c
 
-ordered_case : (o : Option Activities) → IsInOrder (unwrap_or o []) → HasOrder o
+pub ordered_case : (o : Option Activities) → IsInOrder (unwrap_or o []) → HasOrder o
 ordered_case None h = tt
 ordered_case (Some t) h = h
 

@@ -107,7 +107,7 @@ module _ (a b : Activity) (rise_a : IsRising (keys_of a.pool.events)) (rise_b : 
 
 -- ---- in the tree
 
-parent_or : (r x y : Bool) → (x ≡ true → y ≡ true) → (r || x) ≡ true → (r || y) ≡ true
+pub parent_or : (r x y : Bool) → (x ≡ true → y ≡ true) → (r || x) ≡ true → (r || y) ≡ true
 parent_or true x y f h = refl
 parent_or false x y f h = f h
 

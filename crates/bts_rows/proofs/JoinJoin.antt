@@ -59,7 +59,7 @@ module _ {X : Type 0} (g f : X → Bool) where
   lost_one x ys false e h i = i
 
 -- a second filter that passes, and one that fails, all that passed the first
-kept_all : {X : Type 0} (g f : X → Bool) → ((x : X) → f x ≡ true → g x ≡ true) → (xs : List X) → filter g (filter f xs) ≡ filter f xs
+pub kept_all : {X : Type 0} (g f : X → Bool) → ((x : X) → f x ≡ true → g x ≡ true) → (xs : List X) → filter g (filter f xs) ≡ filter f xs
 kept_all g f h [] = refl
 kept_all g f h (x ∷ xs) = kept_one g f x (filter f xs) (f x) refl (h x) (kept_all g f h xs)
 

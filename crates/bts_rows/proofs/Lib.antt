@@ -15,6 +15,11 @@ pub mod Fits
 pub mod TimerFits
 pub mod ContainerChanges
 pub mod Frames
+pub mod Local
+pub mod FamilyFrames
 pub mod ActSound
+pub mod Completing
+pub mod RunSound
+pub mod RequestSound
 pub mod Proper
 pub mod ProperRows

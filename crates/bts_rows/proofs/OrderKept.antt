@@ -72,7 +72,7 @@ module _ (p : ActivityPath) where
   within_case Equal y z e l h = let a = behind_parts z p h in absurd (true≢false (sym l ∙ ap (leads_to p) (sym (exact_bytes z y e)) ∙ a.1))
   within_case Greater y z e l h = refl
 
-  within_behind : (y z : ActivityPath) → leads_to p y ≡ true → is_behind z p ≡ true → path_cmp y z ≡ Less
+  pub within_behind : (y z : ActivityPath) → leads_to p y ≡ true → is_behind z p ≡ true → path_cmp y z ≡ Less
   within_behind y z l h = nat_list_cmp_total.antisymm y z ∙ within_case (path_cmp z y) y z refl l h
 
   module _ (g : ActivityPath → Bool) (x : ActivityPath) (less : (y : ActivityPath) → g y ≡ true → path_cmp x y ≡ Less) where

@@ -172,3 +172,8 @@ family_row here depth s (command.Reset target) = reset_row here s target
 family_row here depth s (command.Suspend target) = suspension_row true here s target
 family_row here depth s (command.Resume target) = suspension_row false here s target
 family_row here depth s _ = refused resp.Invreq reason.Place
+
+-- whether a command resets what a request has acquired
+abbrev pub resets : Command → Bool
+resets (command.Reset target) = not (is_child target)
+resets _ = false

@@ -1,5 +1,5 @@
 // What holds of every command, in whatever frame it stands.
-ghost use Rattle.std.specs.Prelude.{◌≡◌, ℕ, List, IsSome, false};
+ghost use Rattle.std.specs.Prelude.{◌≡◌, ℕ, List, [], IsSome, true, false};
 ghost use Rattle.std.specs.List.Sorted.{IsStrictlySortedBy};
 ghost use Rattle.std.specs.Map.{keys_of};
 ghost use Rattle.std.specs.Ordering.{nat_cmp};
@@ -10,9 +10,10 @@ ghost use Rattle.bts_command.specs.declared.command.Command.{Command};
 ghost use Rattle.bts_tree.specs.Processes.{Process, activities, activity_at};
 ghost use Rattle.bts_tree.specs.Soundness.{IsSoundInFrames};
 ghost use Rattle.bts_rows.specs.ActRows.{act_row};
+ghost use Rattle.bts_rows.specs.FamilyRows.{family_row, resets};
 ghost use Rattle.bts_rows.specs.Given.{IsGiven};
 ghost use Rattle.bts_rows.specs.Replies.{IsProper, is_normal};
-ghost use Rattle.bts_rows.specs.Rows.{act_at, answer};
+ghost use Rattle.bts_rows.specs.Rows.{act_at, answer, family_at, request_in};
 ghost use Rattle.bts_rows.specs.Targets.{Here, in_activity, in_request};
 ghost use Rattle.bts_rows.specs.declared.held.Held.{Held};
 
@@ -40,10 +41,20 @@ pub fn commands_of_one_activity_keep_soundness()
         → IsSoundInFrames frames (left_by s (act_row (in_request held) now s c)) }
 {}
 
+/// In a request's first frame, where no other frame is open, each command but RESET of what is acquired leaves a
+/// sound process sound.
+pub fn commands_of_a_request_keep_soundness()
+    ensures { (held : Held) (depth now : ℕ) (s : Process) (c : Command) → IsGiven c → resets c ≡ false
+        → IsSoundInFrames [] s → IsSoundInFrames [] (left_by (s, held) (request_in held depth now s c)).0 }
+{}
+
 /// In an activity's frame a command is read on the part of the process at its path, and the part is joined. That is
 /// what it answers and leaves when it is read on the whole process: so it touches nothing outside that part.
 pub fn a_frame_reads_its_part()
-    ensures { (path : ActivityPath) (now : ℕ) (s : Process) (c : Command)
+    ensures act { (path : ActivityPath) (now : ℕ) (s : Process) (c : Command)
         → IsStrictlySortedBy (slice_cmp nat_cmp) (keys_of (activities s))
         → act_at path now s c ≡ act_row (in_activity path) now s c }
+    ensures family { (path : ActivityPath) (depth : ℕ) (s : Process) (c : Command)
+        → IsStrictlySortedBy (slice_cmp nat_cmp) (keys_of (activities s))
+        → family_at path depth s c ≡ family_row (in_activity path) depth s c }
 {}

@@ -1,11 +1,16 @@
 use Rattle.std.proofs.Common.{sym, ◌∙◌}
 use Rattle.bts_act.proofs.Forced.{force_done, force_refused}
+use Rattle.bts_act.proofs.Late.{activity_none_early}
 use Rattle.bts_act.proofs.Lifts.{number_below}
 use Rattle.bts_act.proofs.commands.force.Goals as goal
 
-pub force_timer-requires : goal.force_timer-requires
-force_timer-requires c =
+pub force_timer-requires-clause-below : goal.force_timer-requires-clause-below
+force_timer-requires-clause-below c =
     number_below c.in-Ok.path c.args.scope.now.process c.edit.result.now c.edit.ensures.value 18446744073709551615 c.requires.numbers
+
+pub force_timer-requires-clause-late : goal.force_timer-requires-clause-late
+force_timer-requires-clause-late c =
+    activity_none_early c.in-Ok.path c.args.scope.now.process c.edit.result.now c.edit.ensures.value c.requires.late
 
 pub returns-in-Ok-clause-row : goal.returns-in-Ok-clause-row
 returns-in-Ok-clause-row c =

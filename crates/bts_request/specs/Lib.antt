@@ -1,0 +1,4 @@
+pub mod Today
+pub mod Places
+pub mod OnActivity
+pub mod OnRequest
