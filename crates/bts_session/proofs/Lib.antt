@@ -1,0 +1,4 @@
+pub mod Among
+pub mod Fronts
+pub mod Sectioning
+pub mod Steps

@@ -1,0 +1,16 @@
+use Rattle.std.proofs.Common.{sym, ◌∙◌, arith}
+use Rattle.bts_script.specs.Built.{is_built}
+use Rattle.bts_session.proofs.Fronts.{few_lines}
+use Rattle.bts_session.proofs.Steps.{from_first, from_nothing}
+use Rattle.bts_session.proofs.reading.read_session.Goals as goal
+
+pub loop-next-init : goal.loop-next-init
+loop-next-init c =
+    let lines = few_lines c.args.bytes.now in
+    record {
+      read = rw (c.new.ensures, c.new-2.ensures) (from_first is_built c.args.bytes.now c.if-bytes-gt-TEXT_LIMIT.false);
+      number = omega arith;
+    }
+
+pub returns : goal.returns
+returns c = sym c.loop-next.invariant.read ∙ rw c.in_default.ensures.lines (from_nothing is_built c.loop-next.session c.loop-next.left.number)
