@@ -7,3 +7,6 @@ mod session;
 
 pub use reading::read_session;
 pub use session::{Item, Items, Session};
+
+#[cfg(test)]
+mod tests;

@@ -8,3 +8,5 @@ pub mod Repositories
 pub mod Sound
 pub mod Lines
 pub mod Blocks
+pub mod BadLines
+pub mod Sessions

@@ -6,5 +6,6 @@
 //! each command with its reply, and the process behind them (`Plays` in `Tables`). `Composites`, `Timers`,
 //! `Containers` and `Families` have those by subject; `Processes` and `Repositories` compute what becomes of trees and
 //! what is enabled; `Sound` has a process that is sound, and others that aren't, each for one reason. `Lines` and
-//! `Blocks` compute what lines and blocks of scripts say.
+//! `Blocks` compute what lines and blocks of scripts say, `BadLines` why lines are refused, form by form, and
+//! `Sessions` what whole texts say.
 #![tactic(auto)]
