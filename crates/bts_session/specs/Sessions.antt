@@ -19,9 +19,9 @@ use Rattle.bts_session.specs.declared.session.Session.{Session}
 
 -- ---- sections: the lines up to each END, and those behind the last one
 
+-- lines, and the number of the END behind them
 pub record Section : Type 0 where
   pub lines : List Numbered
-  -- the number of its END
   pub end : Option ℕ
 
 abbrev pub ended_at : ℕ → List Section → List Section
@@ -61,10 +61,10 @@ abbrev pub then_on : {A B : Type 0} → (A → Result B Refusal) → Result A Re
 then_on f (Err r) = Err r
 then_on f (Ok x) = f x
 
+-- a request, and a program; a program's name stands once in a session
 abbrev pub request_in : Through → Session → Key → ℕ → List Numbered → Option ℕ → Result Session Refusal
 request_in through s key opening body end = then_on (λ script. Ok (with_item s (item.Request key script))) (closed_block through place.Request opening body end)
 
--- a program's name stands once in a session
 abbrev pub unless_twice : Bool → ℕ → Result Session Refusal → Result Session Refusal
 unless_twice true opening said = refused_at opening word.Twice
 unless_twice false opening said = said
@@ -82,7 +82,7 @@ closes_nothing s (Some n) = refused_at n word.Place
 unfoldable pub outside : Through → Bytes → Result Line Word
 outside through text = line_in through None text
 
--- a line that stands alone, and what more the lines behind it add, or one that opens a block, and the block
+-- a line that stands alone, and what more the lines behind it add; or one that opens a block, and the block
 abbrev pub by_line : Through → (Session → Result Session Refusal) → Session → ℕ → List Numbered → Option ℕ → Result Line Word → Result Session Refusal
 by_line through more s n body end (Err why) = refused_at n why
 by_line through more s n body end (Ok (line.Program name)) = program_in through s name n body end
@@ -112,13 +112,15 @@ session_from through s first texts = sections_in through s (sections_of through 
 abbrev pub text_limit : ℕ
 text_limit = 16_777_216
 
--- the session that bytes say, or the first bad line
+-- a text that is too long is refused as a whole
 abbrev pub unless_long : Bool → Result Session Refusal → Result Session Refusal
 unless_long true said = refused_at 0 word.Long
 unless_long false said = said
 
+-- the session that bytes say, or the first bad line
 abbrev pub session_in : Through → Bytes → Result Session Refusal
 session_in through bytes = unless_long (nat_lt text_limit (length bytes)) (session_from through nothing 1 (lines_of bytes))
 
+-- the same with the lines that are let through
 abbrev pub session_of : Bytes → Result Session Refusal
 session_of = session_in is_built

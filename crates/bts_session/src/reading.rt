@@ -241,11 +241,8 @@ pub fn read_session(alloc: Global, bytes: &[u8]) -> Result<Session, ScriptError>
         number: 1,
         text: bytes,
     };
-    while let Some(next) = next_line(left.text) {
-        left = match read_next(alloc, &mut session, left.number, next.0, next.1) {
-            Ok(left) => left,
-            Err(error) => return Err(error),
-        };
+    while let Some((line, behind)) = next_line(left.text) {
+        left = read_next(alloc, &mut session, left.number, line, behind)?;
     }
     Ok(session)
 }

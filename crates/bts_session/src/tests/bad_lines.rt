@@ -12,9 +12,17 @@ fn is_refused(alloc: Global, text: &str, line: u32, reason: Word) -> bool {
     }
 }
 
-/// A byte that is no printable character of ASCII, in a line of each form.
+/// Whether the line is refused for this reason where it is the one line of a request's block.
+fn is_refused_inside(alloc: Global, line: &str, reason: Word) -> bool {
+    match format!(in alloc; "REQUEST T P\n{line}\nEND") {
+        Ok(text) => is_refused(alloc, text.as_str(), 2, reason),
+        Err(_) => false,
+    }
+}
+
+/// Lines that stand outside of blocks, and opening lines, each with a reason.
 #[test]
-fn a_byte_that_is_no_character_1(rt: HostRuntime) -> Result<(), Fail> {
+fn lines_outside_of_blocks_1(rt: HostRuntime) -> Result<(), Fail> {
     let table = [
         ("PROGRAM A\t", 1, Word::Character),
         ("REQUEST ORDERS P1\u{7f}", 1, Word::Character),
@@ -27,216 +35,6 @@ fn a_byte_that_is_no_character_1(rt: HostRuntime) -> Result<(), Fail> {
             Word::Character,
         ),
         ("REQUEST T P\nEND\t\nEND", 2, Word::Character),
-        ("REQUEST T P\nLABEL L\u{7f}\nEND", 2, Word::Character),
-        ("REQUEST T P\nGOTO Lé\nEND", 2, Word::Character),
-        (
-            "REQUEST T P\nWHEN RESP(NORMAL) GOTO L\0\nEND",
-            2,
-            Word::Character,
-        ),
-        (
-            "REQUEST T P\nWHEN EVENT(DFHINITIAL) GOTO L\t\nEND",
-            2,
-            Word::Character,
-        ),
-        (
-            "REQUEST T P\nWHEN STATUS(ABEND) GOTO L\u{7f}\nEND",
-            2,
-            Word::Character,
-        ),
-        (
-            "REQUEST T P\nWHEN DATA('x') GOTO Lé\nEND",
-            2,
-            Word::Character,
-        ),
-        ("REQUEST T P\nWHEN FIRED GOTO L\0\nEND", 2, Word::Character),
-        (
-            "REQUEST T P\nDEFINE PROCESS TRANSID(T1) PROGRAM(A)\t\nEND",
-            2,
-            Word::Character,
-        ),
-        (
-            "REQUEST T P\nACQUIRE PROCESS\u{7f}\nEND",
-            2,
-            Word::Character,
-        ),
-        (
-            "REQUEST T P\nACQUIRE ACTIVITYID(/1/2)é\nEND",
-            2,
-            Word::Character,
-        ),
-        ("REQUEST T P\nPURGE ACQPROCESS\0\nEND", 2, Word::Character),
-        (
-            "REQUEST T P\nDEFINE ACTIVITY(A) TRANSID(T1) PROGRAM(B)\t\nEND",
-            2,
-            Word::Character,
-        ),
-        (
-            "REQUEST T P\nDEFINE ACTIVITY(A) EVENT(E) TRANSID(T1) PROGRAM(B)\u{7f}\nEND",
-            2,
-            Word::Character,
-        ),
-        ("REQUEST T P\nDELETE ACTIVITY(A)é\nEND", 2, Word::Character),
-        (
-            "REQUEST T P\nRUN ACTIVITY(A) SYNCHRONOUS\0\nEND",
-            2,
-            Word::Character,
-        ),
-        (
-            "REQUEST T P\nRUN ACQPROCESS ASYNCHRONOUS INPUTEVENT(E)\t\nEND",
-            2,
-            Word::Character,
-        ),
-        (
-            "REQUEST T P\nLINK ACQACTIVITY\u{7f}\nEND",
-            2,
-            Word::Character,
-        ),
-        ("REQUEST T P\nCHECK ACTIVITY(A)é\nEND", 2, Word::Character),
-    ];
-    for (text, line, reason) in table {
-        assert!(rt; is_refused(rt.alloc(), text, line, reason), "{text}");
-    }
-    Ok(())
-}
-
-/// A byte that is no printable character of ASCII, in a line of each form.
-#[test]
-fn a_byte_that_is_no_character_2(rt: HostRuntime) -> Result<(), Fail> {
-    let table = [
-        ("REQUEST T P\nCANCEL ACQPROCESS\0\nEND", 2, Word::Character),
-        ("REQUEST T P\nRESET ACQACTIVITY\t\nEND", 2, Word::Character),
-        (
-            "REQUEST T P\nSUSPEND ACTIVITY(A)\u{7f}\nEND",
-            2,
-            Word::Character,
-        ),
-        ("REQUEST T P\nRESUME ACTIVITY(A)é\nEND", 2, Word::Character),
-        (
-            "REQUEST T P\nPUT CONTAINER(C) ACQPROCESS FROM('x')\0\nEND",
-            2,
-            Word::Character,
-        ),
-        (
-            "REQUEST T P\nPUT CONTAINER(C) ACQPROCESS FROM(FILL(3))\t\nEND",
-            2,
-            Word::Character,
-        ),
-        (
-            "REQUEST T P\nPUT CONTAINER(C) ACQPROCESS FROM(LAST)\u{7f}\nEND",
-            2,
-            Word::Character,
-        ),
-        (
-            "REQUEST T P\nPUT CONTAINER(C) PROCESS FROM('x')é\nEND",
-            2,
-            Word::Character,
-        ),
-        (
-            "REQUEST T P\nPUT CONTAINER(C) FROM('x')\0\nEND",
-            2,
-            Word::Character,
-        ),
-        (
-            "REQUEST T P\nGET CONTAINER(C) ACQPROCESS\t\nEND",
-            2,
-            Word::Character,
-        ),
-        (
-            "REQUEST T P\nGET CONTAINER(C) ACTIVITY(A)\u{7f}\nEND",
-            2,
-            Word::Character,
-        ),
-        (
-            "REQUEST T P\nDELETE CONTAINER(C) ACQPROCESSé\nEND",
-            2,
-            Word::Character,
-        ),
-        (
-            "REQUEST T P\nDEFINE INPUT EVENT(E)\0\nEND",
-            2,
-            Word::Character,
-        ),
-        (
-            "REQUEST T P\nDEFINE COMPOSITE EVENT(E) AND\t\nEND",
-            2,
-            Word::Character,
-        ),
-        (
-            "REQUEST T P\nDEFINE COMPOSITE EVENT(E) OR SUBEVENT(A) SUBEVENT(B)\u{7f}\nEND",
-            2,
-            Word::Character,
-        ),
-        (
-            "REQUEST T P\nADD SUBEVENT(S) EVENT(E)é\nEND",
-            2,
-            Word::Character,
-        ),
-        (
-            "REQUEST T P\nREMOVE SUBEVENT(S) EVENT(E)\0\nEND",
-            2,
-            Word::Character,
-        ),
-        ("REQUEST T P\nDELETE EVENT(E)\t\nEND", 2, Word::Character),
-        ("REQUEST T P\nTEST EVENT(E)\u{7f}\nEND", 2, Word::Character),
-        (
-            "REQUEST T P\nRETRIEVE REATTACH EVENTé\nEND",
-            2,
-            Word::Character,
-        ),
-        (
-            "REQUEST T P\nRETRIEVE SUBEVENT EVENT(E)\0\nEND",
-            2,
-            Word::Character,
-        ),
-        (
-            "REQUEST T P\nDEFINE TIMER(T) AFTER(60)\t\nEND",
-            2,
-            Word::Character,
-        ),
-        (
-            "REQUEST T P\nDEFINE TIMER(T) EVENT(E) AT(1970-01-01T00:01:00)\u{7f}\nEND",
-            2,
-            Word::Character,
-        ),
-        ("REQUEST T P\nFORCE TIMER(T)é\nEND", 2, Word::Character),
-        (
-            "REQUEST T P\nFORCE TIMER(T) ACQPROCESS\0\nEND",
-            2,
-            Word::Character,
-        ),
-    ];
-    for (text, line, reason) in table {
-        assert!(rt; is_refused(rt.alloc(), text, line, reason), "{text}");
-    }
-    Ok(())
-}
-
-/// A byte that is no printable character of ASCII, in a line of each form.
-#[test]
-fn a_byte_that_is_no_character_3(rt: HostRuntime) -> Result<(), Fail> {
-    let table = [
-        ("REQUEST T P\nCHECK TIMER(T)\t\nEND", 2, Word::Character),
-        (
-            "REQUEST T P\nDELETE TIMER(T)\u{7f}\nEND",
-            2,
-            Word::Character,
-        ),
-        ("REQUEST T P\nRETURNé\nEND", 2, Word::Character),
-        ("REQUEST T P\nRETURN ENDACTIVITY\0\nEND", 2, Word::Character),
-        ("REQUEST T P\nABEND ABCODE(C)\t\nEND", 2, Word::Character),
-        ("REQUEST T P\nROLLBACK\u{7f}\nEND", 2, Word::Character),
-    ];
-    for (text, line, reason) in table {
-        assert!(rt; is_refused(rt.alloc(), text, line, reason), "{text}");
-    }
-    Ok(())
-}
-
-/// A word too many, in a line of each form.
-#[test]
-fn a_word_too_many_1(rt: HostRuntime) -> Result<(), Fail> {
-    let table = [
         ("PROGRAM A X", 1, Word::Word),
         ("REQUEST ORDERS P1 X", 1, Word::Word),
         ("CLOCK 1970-01-01T00:00:00 X", 1, Word::Word),
@@ -248,188 +46,6 @@ fn a_word_too_many_1(rt: HostRuntime) -> Result<(), Fail> {
             Word::Word,
         ),
         ("REQUEST T P\nEND X\nEND", 2, Word::Word),
-        ("REQUEST T P\nLABEL L X\nEND", 2, Word::Word),
-        ("REQUEST T P\nGOTO L X\nEND", 2, Word::Word),
-        (
-            "REQUEST T P\nWHEN RESP(NORMAL) GOTO L X\nEND",
-            2,
-            Word::Word,
-        ),
-        (
-            "REQUEST T P\nWHEN EVENT(DFHINITIAL) GOTO L X\nEND",
-            2,
-            Word::Word,
-        ),
-        (
-            "REQUEST T P\nWHEN STATUS(ABEND) GOTO L X\nEND",
-            2,
-            Word::Word,
-        ),
-        ("REQUEST T P\nWHEN DATA('x') GOTO L X\nEND", 2, Word::Word),
-        ("REQUEST T P\nWHEN FIRED GOTO L X\nEND", 2, Word::Word),
-        (
-            "REQUEST T P\nDEFINE PROCESS TRANSID(T1) PROGRAM(A) X\nEND",
-            2,
-            Word::Word,
-        ),
-        ("REQUEST T P\nACQUIRE PROCESS X\nEND", 2, Word::Word),
-        (
-            "REQUEST T P\nACQUIRE ACTIVITYID(/1/2) X\nEND",
-            2,
-            Word::Word,
-        ),
-        ("REQUEST T P\nPURGE ACQPROCESS X\nEND", 2, Word::Word),
-        (
-            "REQUEST T P\nDEFINE ACTIVITY(A) TRANSID(T1) PROGRAM(B) X\nEND",
-            2,
-            Word::Word,
-        ),
-        (
-            "REQUEST T P\nDEFINE ACTIVITY(A) EVENT(E) TRANSID(T1) PROGRAM(B) X\nEND",
-            2,
-            Word::Word,
-        ),
-        ("REQUEST T P\nDELETE ACTIVITY(A) X\nEND", 2, Word::Word),
-        (
-            "REQUEST T P\nRUN ACTIVITY(A) SYNCHRONOUS X\nEND",
-            2,
-            Word::Word,
-        ),
-        (
-            "REQUEST T P\nRUN ACQPROCESS ASYNCHRONOUS INPUTEVENT(E) X\nEND",
-            2,
-            Word::Word,
-        ),
-        ("REQUEST T P\nLINK ACQACTIVITY X\nEND", 2, Word::Word),
-        ("REQUEST T P\nCHECK ACTIVITY(A) X\nEND", 2, Word::Word),
-    ];
-    for (text, line, reason) in table {
-        assert!(rt; is_refused(rt.alloc(), text, line, reason), "{text}");
-    }
-    Ok(())
-}
-
-/// A word too many, in a line of each form.
-#[test]
-fn a_word_too_many_2(rt: HostRuntime) -> Result<(), Fail> {
-    let table = [
-        ("REQUEST T P\nCANCEL ACQPROCESS X\nEND", 2, Word::Word),
-        ("REQUEST T P\nRESET ACQACTIVITY X\nEND", 2, Word::Word),
-        ("REQUEST T P\nSUSPEND ACTIVITY(A) X\nEND", 2, Word::Word),
-        ("REQUEST T P\nRESUME ACTIVITY(A) X\nEND", 2, Word::Word),
-        (
-            "REQUEST T P\nPUT CONTAINER(C) ACQPROCESS FROM('x') X\nEND",
-            2,
-            Word::Word,
-        ),
-        (
-            "REQUEST T P\nPUT CONTAINER(C) ACQPROCESS FROM(FILL(3)) X\nEND",
-            2,
-            Word::Word,
-        ),
-        (
-            "REQUEST T P\nPUT CONTAINER(C) ACQPROCESS FROM(LAST) X\nEND",
-            2,
-            Word::Word,
-        ),
-        (
-            "REQUEST T P\nPUT CONTAINER(C) PROCESS FROM('x') X\nEND",
-            2,
-            Word::Word,
-        ),
-        (
-            "REQUEST T P\nPUT CONTAINER(C) FROM('x') X\nEND",
-            2,
-            Word::Word,
-        ),
-        (
-            "REQUEST T P\nGET CONTAINER(C) ACQPROCESS X\nEND",
-            2,
-            Word::Word,
-        ),
-        (
-            "REQUEST T P\nGET CONTAINER(C) ACTIVITY(A) X\nEND",
-            2,
-            Word::Word,
-        ),
-        (
-            "REQUEST T P\nDELETE CONTAINER(C) ACQPROCESS X\nEND",
-            2,
-            Word::Word,
-        ),
-        ("REQUEST T P\nDEFINE INPUT EVENT(E) X\nEND", 2, Word::Word),
-        (
-            "REQUEST T P\nDEFINE COMPOSITE EVENT(E) AND X\nEND",
-            2,
-            Word::Word,
-        ),
-        (
-            "REQUEST T P\nDEFINE COMPOSITE EVENT(E) OR SUBEVENT(A) SUBEVENT(B) X\nEND",
-            2,
-            Word::Word,
-        ),
-        (
-            "REQUEST T P\nADD SUBEVENT(S) EVENT(E) X\nEND",
-            2,
-            Word::Word,
-        ),
-        (
-            "REQUEST T P\nREMOVE SUBEVENT(S) EVENT(E) X\nEND",
-            2,
-            Word::Word,
-        ),
-        ("REQUEST T P\nDELETE EVENT(E) X\nEND", 2, Word::Word),
-        ("REQUEST T P\nTEST EVENT(E) X\nEND", 2, Word::Word),
-        ("REQUEST T P\nRETRIEVE REATTACH EVENT X\nEND", 2, Word::Word),
-        (
-            "REQUEST T P\nRETRIEVE SUBEVENT EVENT(E) X\nEND",
-            2,
-            Word::Word,
-        ),
-        (
-            "REQUEST T P\nDEFINE TIMER(T) AFTER(60) X\nEND",
-            2,
-            Word::Word,
-        ),
-        (
-            "REQUEST T P\nDEFINE TIMER(T) EVENT(E) AT(1970-01-01T00:01:00) X\nEND",
-            2,
-            Word::Word,
-        ),
-        ("REQUEST T P\nFORCE TIMER(T) X\nEND", 2, Word::Word),
-        (
-            "REQUEST T P\nFORCE TIMER(T) ACQPROCESS X\nEND",
-            2,
-            Word::Word,
-        ),
-    ];
-    for (text, line, reason) in table {
-        assert!(rt; is_refused(rt.alloc(), text, line, reason), "{text}");
-    }
-    Ok(())
-}
-
-/// A word too many, in a line of each form.
-#[test]
-fn a_word_too_many_3(rt: HostRuntime) -> Result<(), Fail> {
-    let table = [
-        ("REQUEST T P\nCHECK TIMER(T) X\nEND", 2, Word::Word),
-        ("REQUEST T P\nDELETE TIMER(T) X\nEND", 2, Word::Word),
-        ("REQUEST T P\nRETURN X\nEND", 2, Word::Word),
-        ("REQUEST T P\nRETURN ENDACTIVITY X\nEND", 2, Word::Word),
-        ("REQUEST T P\nABEND ABCODE(C) X\nEND", 2, Word::Word),
-        ("REQUEST T P\nROLLBACK X\nEND", 2, Word::Word),
-    ];
-    for (text, line, reason) in table {
-        assert!(rt; is_refused(rt.alloc(), text, line, reason), "{text}");
-    }
-    Ok(())
-}
-
-/// A form that is not let through yet.
-#[test]
-fn a_form_that_is_not_let_through_1(rt: HostRuntime) -> Result<(), Fail> {
-    let table = [
         ("PROGRAM A", 1, Word::NotYet),
         ("CLOCK 1970-01-01T00:00:00", 1, Word::NotYet),
         ("SETTLE", 1, Word::NotYet),
@@ -439,157 +55,18 @@ fn a_form_that_is_not_let_through_1(rt: HostRuntime) -> Result<(), Fail> {
             1,
             Word::NotYet,
         ),
-        ("REQUEST T P\nLABEL L\nEND", 2, Word::NotYet),
-        ("REQUEST T P\nGOTO L\nEND", 2, Word::NotYet),
-        (
-            "REQUEST T P\nWHEN RESP(NORMAL) GOTO L\nEND",
-            2,
-            Word::NotYet,
-        ),
-        (
-            "REQUEST T P\nWHEN EVENT(DFHINITIAL) GOTO L\nEND",
-            2,
-            Word::NotYet,
-        ),
-        (
-            "REQUEST T P\nWHEN STATUS(ABEND) GOTO L\nEND",
-            2,
-            Word::NotYet,
-        ),
-        ("REQUEST T P\nWHEN DATA('x') GOTO L\nEND", 2, Word::NotYet),
-        ("REQUEST T P\nWHEN FIRED GOTO L\nEND", 2, Word::NotYet),
-        ("REQUEST T P\nACQUIRE PROCESS\nEND", 2, Word::NotYet),
-        (
-            "REQUEST T P\nACQUIRE ACTIVITYID(/1/2)\nEND",
-            2,
-            Word::NotYet,
-        ),
-        ("REQUEST T P\nPURGE ACQPROCESS\nEND", 2, Word::NotYet),
-        (
-            "REQUEST T P\nDEFINE ACTIVITY(A) TRANSID(T1) PROGRAM(B)\nEND",
-            2,
-            Word::NotYet,
-        ),
-        (
-            "REQUEST T P\nDEFINE ACTIVITY(A) EVENT(E) TRANSID(T1) PROGRAM(B)\nEND",
-            2,
-            Word::NotYet,
-        ),
-        ("REQUEST T P\nDELETE ACTIVITY(A)\nEND", 2, Word::NotYet),
-        (
-            "REQUEST T P\nRUN ACTIVITY(A) SYNCHRONOUS\nEND",
-            2,
-            Word::NotYet,
-        ),
-        (
-            "REQUEST T P\nRUN ACQPROCESS ASYNCHRONOUS INPUTEVENT(E)\nEND",
-            2,
-            Word::NotYet,
-        ),
-        ("REQUEST T P\nLINK ACQACTIVITY\nEND", 2, Word::NotYet),
-        ("REQUEST T P\nCHECK ACTIVITY(A)\nEND", 2, Word::NotYet),
-        ("REQUEST T P\nCANCEL ACQPROCESS\nEND", 2, Word::NotYet),
-        ("REQUEST T P\nRESET ACQACTIVITY\nEND", 2, Word::NotYet),
-        ("REQUEST T P\nSUSPEND ACTIVITY(A)\nEND", 2, Word::NotYet),
-    ];
-    for (text, line, reason) in table {
-        assert!(rt; is_refused(rt.alloc(), text, line, reason), "{text}");
-    }
-    Ok(())
-}
-
-/// A form that is not let through yet.
-#[test]
-fn a_form_that_is_not_let_through_2(rt: HostRuntime) -> Result<(), Fail> {
-    let table = [
-        ("REQUEST T P\nRESUME ACTIVITY(A)\nEND", 2, Word::NotYet),
-        (
-            "REQUEST T P\nPUT CONTAINER(C) ACQPROCESS FROM(LAST)\nEND",
-            2,
-            Word::NotYet,
-        ),
-        (
-            "REQUEST T P\nPUT CONTAINER(C) PROCESS FROM('x')\nEND",
-            2,
-            Word::NotYet,
-        ),
-        (
-            "REQUEST T P\nPUT CONTAINER(C) FROM('x')\nEND",
-            2,
-            Word::NotYet,
-        ),
-        (
-            "REQUEST T P\nGET CONTAINER(C) ACTIVITY(A)\nEND",
-            2,
-            Word::NotYet,
-        ),
-        (
-            "REQUEST T P\nDELETE CONTAINER(C) ACQPROCESS\nEND",
-            2,
-            Word::NotYet,
-        ),
-        ("REQUEST T P\nDEFINE INPUT EVENT(E)\nEND", 2, Word::NotYet),
-        (
-            "REQUEST T P\nDEFINE COMPOSITE EVENT(E) AND\nEND",
-            2,
-            Word::NotYet,
-        ),
-        (
-            "REQUEST T P\nDEFINE COMPOSITE EVENT(E) OR SUBEVENT(A) SUBEVENT(B)\nEND",
-            2,
-            Word::NotYet,
-        ),
-        (
-            "REQUEST T P\nADD SUBEVENT(S) EVENT(E)\nEND",
-            2,
-            Word::NotYet,
-        ),
-        (
-            "REQUEST T P\nREMOVE SUBEVENT(S) EVENT(E)\nEND",
-            2,
-            Word::NotYet,
-        ),
-        ("REQUEST T P\nDELETE EVENT(E)\nEND", 2, Word::NotYet),
-        ("REQUEST T P\nTEST EVENT(E)\nEND", 2, Word::NotYet),
-        ("REQUEST T P\nRETRIEVE REATTACH EVENT\nEND", 2, Word::NotYet),
-        (
-            "REQUEST T P\nRETRIEVE SUBEVENT EVENT(E)\nEND",
-            2,
-            Word::NotYet,
-        ),
-        (
-            "REQUEST T P\nDEFINE TIMER(T) AFTER(60)\nEND",
-            2,
-            Word::NotYet,
-        ),
-        (
-            "REQUEST T P\nDEFINE TIMER(T) EVENT(E) AT(1970-01-01T00:01:00)\nEND",
-            2,
-            Word::NotYet,
-        ),
-        ("REQUEST T P\nFORCE TIMER(T)\nEND", 2, Word::NotYet),
-        (
-            "REQUEST T P\nFORCE TIMER(T) ACQPROCESS\nEND",
-            2,
-            Word::NotYet,
-        ),
-        ("REQUEST T P\nCHECK TIMER(T)\nEND", 2, Word::NotYet),
-        ("REQUEST T P\nDELETE TIMER(T)\nEND", 2, Word::NotYet),
-        ("REQUEST T P\nRETURN ENDACTIVITY\nEND", 2, Word::NotYet),
-        ("REQUEST T P\nABEND ABCODE(C)\nEND", 2, Word::NotYet),
-        ("REQUEST T P\nROLLBACK\nEND", 2, Word::NotYet),
-    ];
-    for (text, line, reason) in table {
-        assert!(rt; is_refused(rt.alloc(), text, line, reason), "{text}");
-    }
-    Ok(())
-}
-
-/// Lines that have none of the forms.
-#[test]
-fn no_form_1(rt: HostRuntime) -> Result<(), Fail> {
-    let table = [
         ("HELLO", 1, Word::Word),
+    ];
+    for (text, line, reason) in table {
+        assert!(rt; is_refused(rt.alloc(), text, line, reason), "{text}");
+    }
+    Ok(())
+}
+
+/// Lines that stand outside of blocks, and opening lines, each with a reason.
+#[test]
+fn lines_outside_of_blocks_2(rt: HostRuntime) -> Result<(), Fail> {
+    let table = [
         ("request T P", 1, Word::Word),
         ("REQUEST", 1, Word::Word),
         ("REQUEST T", 1, Word::Word),
@@ -601,192 +78,6 @@ fn no_form_1(rt: HostRuntime) -> Result<(), Fail> {
         ("CLOCK", 1, Word::Word),
         ("BROWSE SUSPENDED MODE(INITIAL)", 1, Word::Word),
         ("BROWSE MODE(INITIAL) MODE(INITIAL)", 1, Word::Word),
-        (
-            "REQUEST T P\ndefine PROCESS TRANSID(T1) PROGRAM(A)\nEND",
-            2,
-            Word::Word,
-        ),
-        ("REQUEST T P\nDEFINE PROCESS\nEND", 2, Word::Word),
-        (
-            "REQUEST T P\nDEFINE PROCESS TRANSID(T1)\nEND",
-            2,
-            Word::Word,
-        ),
-        (
-            "REQUEST T P\nDEFINE PROCESS PROGRAM(A) TRANSID(T1)\nEND",
-            2,
-            Word::Word,
-        ),
-        (
-            "REQUEST T P\nDEFINE PROCESS TRANSID (T1) PROGRAM(A)\nEND",
-            2,
-            Word::Word,
-        ),
-        (
-            "REQUEST T P\nDEFINE PROCESS TRANSID(T1)x PROGRAM(A)\nEND",
-            2,
-            Word::Word,
-        ),
-        (
-            "REQUEST T P\nDEFINE PROCESS TRANSID(T1)) PROGRAM(A)\nEND",
-            2,
-            Word::Word,
-        ),
-        (
-            "REQUEST T P\nDEFINE PROCESS TRANSID(T1 PROGRAM(A)\nEND",
-            2,
-            Word::Word,
-        ),
-        (
-            "REQUEST T P\nDEFINE PROCESS TRANSID(T1) TRANSID(T1) PROGRAM(A)\nEND",
-            2,
-            Word::Word,
-        ),
-        (
-            "REQUEST T P\nDEFINE PROCESS TRANSIDS(T1) PROGRAM(A)\nEND",
-            2,
-            Word::Word,
-        ),
-        (
-            "REQUEST T P\nDEFINE PROCESS TRANSID T1 PROGRAM A\nEND",
-            2,
-            Word::Word,
-        ),
-        (
-            "REQUEST T P\nPUT CONTAINER(C) ACQPROCESS\nEND",
-            2,
-            Word::Word,
-        ),
-        (
-            "REQUEST T P\nPUT CONTAINER(C ACQPROCESS FROM('x')\nEND",
-            2,
-            Word::Word,
-        ),
-    ];
-    for (text, line, reason) in table {
-        assert!(rt; is_refused(rt.alloc(), text, line, reason), "{text}");
-    }
-    Ok(())
-}
-
-/// Lines that have none of the forms.
-#[test]
-fn no_form_2(rt: HostRuntime) -> Result<(), Fail> {
-    let table = [
-        (
-            "REQUEST T P\nPUT CONTAINER(C)B) ACQPROCESS FROM('x')\nEND",
-            2,
-            Word::Word,
-        ),
-        (
-            "REQUEST T P\nPUT CONTAINER (C) ACQPROCESS FROM('x')\nEND",
-            2,
-            Word::Word,
-        ),
-        (
-            "REQUEST T P\nPUT CONTAINER(C) FROM('a') ACQPROCESS\nEND",
-            2,
-            Word::Word,
-        ),
-        (
-            "REQUEST T P\nPUT CONTAINER(C) ACQPROCESS FROM('a')x\nEND",
-            2,
-            Word::Word,
-        ),
-        (
-            "REQUEST T P\nPUT CONTAINER(C) ACQPROCESS FROM ('a')\nEND",
-            2,
-            Word::Word,
-        ),
-        (
-            "REQUEST T P\nPUT CONTAINER(C) ACQPROCESS FROM('a'\nEND",
-            2,
-            Word::Word,
-        ),
-        (
-            "REQUEST T P\nPUT CONTAINER(C) ACQPROCESS ACQPROCESS FROM('a')\nEND",
-            2,
-            Word::Word,
-        ),
-        (
-            "REQUEST T P\nPUT ACQPROCESS CONTAINER(C) FROM('a')\nEND",
-            2,
-            Word::Word,
-        ),
-        (
-            "REQUEST T P\nGET CONTAINER(C) ACQPROCESS PROCESS\nEND",
-            2,
-            Word::Word,
-        ),
-        (
-            "REQUEST T P\nGET ACQPROCESS CONTAINER(C)\nEND",
-            2,
-            Word::Word,
-        ),
-        (
-            "REQUEST T P\nGET CONTAINER C ACQPROCESS\nEND",
-            2,
-            Word::Word,
-        ),
-        (
-            "REQUEST T P\nGET CONTAINER(C) ACQPROCESS FROM('x')\nEND",
-            2,
-            Word::Word,
-        ),
-        (
-            "REQUEST T P\nGET CONTAINER(C)ACQPROCESS\nEND",
-            2,
-            Word::Word,
-        ),
-        ("REQUEST T P\nRETURNS\nEND", 2, Word::Word),
-        (
-            "REQUEST T P\nRETURN ENDACTIVITY ENDACTIVITY\nEND",
-            2,
-            Word::Word,
-        ),
-        ("REQUEST T P\nLABEL FROM(a b)\nEND", 2, Word::Word),
-        ("REQUEST T P\nRUN ACQPROCESS\nEND", 2, Word::Word),
-        ("REQUEST T P\nDEFINE COMPOSITE EVENT(E)\nEND", 2, Word::Word),
-        (
-            "REQUEST T P\nDEFINE COMPOSITE EVENT(E) OR SUBEVENT(A) SUBEVENT(B) SUBEVENT(C) SUBEVENT(D) SUBEVENT(E) SUBEVENT(F) SUBEVENT(G) SUBEVENT(H) SUBEVENT(I)\nEND",
-            2,
-            Word::Word,
-        ),
-        ("REQUEST T P\nWHEN DATA('a') GOTO L)\nEND", 2, Word::Word),
-        ("REQUEST T P\nWHEN FIRED\nEND", 2, Word::Word),
-        (
-            "REQUEST T P\nFORCE TIMER(T) ACTIVITY(A)\nEND",
-            2,
-            Word::Word,
-        ),
-        ("REQUEST T P\nDEFINE TIMER(T)\nEND", 2, Word::Word),
-        (
-            "REQUEST T P\nDEFINE TIMER(T) AFTER(1) EVENT(E)\nEND",
-            2,
-            Word::Word,
-        ),
-        ("REQUEST T P\nABEND\nEND", 2, Word::Word),
-    ];
-    for (text, line, reason) in table {
-        assert!(rt; is_refused(rt.alloc(), text, line, reason), "{text}");
-    }
-    Ok(())
-}
-
-/// Lines that have none of the forms.
-#[test]
-fn no_form_3(rt: HostRuntime) -> Result<(), Fail> {
-    let table = [("REQUEST T P\nACQUIRE\nEND", 2, Word::Word)];
-    for (text, line, reason) in table {
-        assert!(rt; is_refused(rt.alloc(), text, line, reason), "{text}");
-    }
-    Ok(())
-}
-
-/// Arguments that are no names; the first one from the left decides.
-#[test]
-fn no_name(rt: HostRuntime) -> Result<(), Fail> {
-    let table = [
         ("REQUEST DFHX P", 1, Word::Name),
         ("REQUEST T DFHX", 1, Word::Name),
         ("REQUEST ABCDEFGHI P", 1, Word::Name),
@@ -799,86 +90,6 @@ fn no_name(rt: HostRuntime) -> Result<(), Fail> {
         ("REQUEST T P(1)", 1, Word::Name),
         ("REQUEST T/U P", 1, Word::Name),
         ("REQUEST T P\n* nothing\nEND\nREQUEST T DFH", 4, Word::Name),
-        (
-            "REQUEST T P\nDEFINE PROCESS TRANSID() PROGRAM(A)\nEND",
-            2,
-            Word::Name,
-        ),
-        (
-            "REQUEST T P\nDEFINE PROCESS TRANSID(T1) PROGRAM()\nEND",
-            2,
-            Word::Name,
-        ),
-        (
-            "REQUEST T P\nDEFINE PROCESS TRANSID(ABCDE) PROGRAM(A)\nEND",
-            2,
-            Word::Name,
-        ),
-        (
-            "REQUEST T P\nDEFINE PROCESS TRANSID(DFHA) PROGRAM(A)\nEND",
-            2,
-            Word::Name,
-        ),
-        (
-            "REQUEST T P\nDEFINE PROCESS TRANSID(T1) PROGRAM(ABCDEFGHI)\nEND",
-            2,
-            Word::Name,
-        ),
-        (
-            "REQUEST T P\nDEFINE PROCESS TRANSID(T1) PROGRAM(DFHROOT)\nEND",
-            2,
-            Word::Name,
-        ),
-        (
-            "REQUEST T P\nDEFINE PROCESS TRANSID(T*) PROGRAM(A)\nEND",
-            2,
-            Word::Name,
-        ),
-        (
-            "REQUEST T P\nPUT CONTAINER() ACQPROCESS FROM('x')\nEND",
-            2,
-            Word::Name,
-        ),
-        (
-            "REQUEST T P\nPUT CONTAINER(ABCDEFGHIJKLMNOPQ) ACQPROCESS FROM('x')\nEND",
-            2,
-            Word::Name,
-        ),
-        (
-            "REQUEST T P\nPUT CONTAINER(DFHROOT) ACQPROCESS FROM('x')\nEND",
-            2,
-            Word::Name,
-        ),
-        (
-            "REQUEST T P\nPUT CONTAINER(DFHX) ACQPROCESS FROM(abc)\nEND",
-            2,
-            Word::Name,
-        ),
-        (
-            "REQUEST T P\nPUT CONTAINER(A+B) ACQPROCESS FROM('x')\nEND",
-            2,
-            Word::Name,
-        ),
-        (
-            "REQUEST T P\nGET CONTAINER() ACQPROCESS\nEND",
-            2,
-            Word::Name,
-        ),
-        (
-            "REQUEST T P\nGET CONTAINER(DFHINITIAL) ACQPROCESS\nEND",
-            2,
-            Word::Name,
-        ),
-        (
-            "REQUEST T P\nGET CONTAINER(ABCDEFGHIJKLMNOPQ) ACQPROCESS\nEND",
-            2,
-            Word::Name,
-        ),
-        (
-            "REQUEST T P\nGET CONTAINER('C') ACQPROCESS\nEND",
-            2,
-            Word::Name,
-        ),
     ];
     for (text, line, reason) in table {
         assert!(rt; is_refused(rt.alloc(), text, line, reason), "{text}");
@@ -886,152 +97,358 @@ fn no_name(rt: HostRuntime) -> Result<(), Fail> {
     Ok(())
 }
 
-/// What FROM takes is a literal, or FILL and a number up to 1,100,000.
+/// A byte that is no printable character of ASCII, in a line of each form.
 #[test]
-fn no_literal_1(rt: HostRuntime) -> Result<(), Fail> {
-    let table = [
-        (
-            "REQUEST T P\nPUT CONTAINER(C) ACQPROCESS FROM(abc)\nEND",
-            2,
-            Word::Literal,
-        ),
-        (
-            "REQUEST T P\nPUT CONTAINER(C) ACQPROCESS FROM('a)\nEND",
-            2,
-            Word::Literal,
-        ),
-        (
-            "REQUEST T P\nPUT CONTAINER(C) ACQPROCESS FROM(a')\nEND",
-            2,
-            Word::Literal,
-        ),
-        (
-            "REQUEST T P\nPUT CONTAINER(C) ACQPROCESS FROM('a'b')\nEND",
-            2,
-            Word::Literal,
-        ),
-        (
-            "REQUEST T P\nPUT CONTAINER(C) ACQPROCESS FROM('a'b)\nEND",
-            2,
-            Word::Literal,
-        ),
-        (
-            "REQUEST T P\nPUT CONTAINER(C) ACQPROCESS FROM(x'00')\nEND",
-            2,
-            Word::Literal,
-        ),
-        (
-            "REQUEST T P\nPUT CONTAINER(C) ACQPROCESS FROM(X'0')\nEND",
-            2,
-            Word::Literal,
-        ),
-        (
-            "REQUEST T P\nPUT CONTAINER(C) ACQPROCESS FROM(X'0G')\nEND",
-            2,
-            Word::Literal,
-        ),
-        (
-            "REQUEST T P\nPUT CONTAINER(C) ACQPROCESS FROM(X'00)\nEND",
-            2,
-            Word::Literal,
-        ),
-        (
-            "REQUEST T P\nPUT CONTAINER(C) ACQPROCESS FROM(X00)\nEND",
-            2,
-            Word::Literal,
-        ),
-        (
-            "REQUEST T P\nPUT CONTAINER(C) ACQPROCESS FROM()\nEND",
-            2,
-            Word::Literal,
-        ),
-        (
-            "REQUEST T P\nPUT CONTAINER(C) ACQPROCESS FROM('a') ACTIVITY(B)\nEND",
-            2,
-            Word::Literal,
-        ),
-        (
-            "REQUEST T P\nPUT CONTAINER(C) ACQPROCESS FROM( 'a')\nEND",
-            2,
-            Word::Literal,
-        ),
-        (
-            "REQUEST T P\nPUT CONTAINER(C) ACQPROCESS FROM('a' )\nEND",
-            2,
-            Word::Literal,
-        ),
-        (
-            "REQUEST T P\nPUT CONTAINER(C) ACQPROCESS FROM(FILL)\nEND",
-            2,
-            Word::Literal,
-        ),
-        (
-            "REQUEST T P\nPUT CONTAINER(C) ACQPROCESS FROM(FILL())\nEND",
-            2,
-            Word::Literal,
-        ),
-        (
-            "REQUEST T P\nPUT CONTAINER(C) ACQPROCESS FROM(FILL(01))\nEND",
-            2,
-            Word::Literal,
-        ),
-        (
-            "REQUEST T P\nPUT CONTAINER(C) ACQPROCESS FROM(FILL(1100001))\nEND",
-            2,
-            Word::Literal,
-        ),
-        (
-            "REQUEST T P\nPUT CONTAINER(C) ACQPROCESS FROM(FILL(-1))\nEND",
-            2,
-            Word::Literal,
-        ),
-        (
-            "REQUEST T P\nPUT CONTAINER(C) ACQPROCESS FROM(FILL(3) )\nEND",
-            2,
-            Word::Literal,
-        ),
-        (
-            "REQUEST T P\nPUT CONTAINER(C) ACQPROCESS FROM(FILL( 3))\nEND",
-            2,
-            Word::Literal,
-        ),
-        (
-            "REQUEST T P\nPUT CONTAINER(C) ACQPROCESS FROM(FILL(x))\nEND",
-            2,
-            Word::Literal,
-        ),
-        (
-            "REQUEST T P\nPUT CONTAINER(C) ACQPROCESS FROM(FILL(3)\nEND",
-            2,
-            Word::Literal,
-        ),
-        (
-            "REQUEST T P\nPUT CONTAINER(C) ACQPROCESS FROM(FILL(4294967296))\nEND",
-            2,
-            Word::Literal,
-        ),
-        (
-            "REQUEST T P\nPUT CONTAINER(C) ACQPROCESS FROM(LAST )\nEND",
-            2,
-            Word::Literal,
-        ),
+fn bytes_that_are_no_characters_1(rt: HostRuntime) -> Result<(), Fail> {
+    let lines = [
+        "LABEL L\u{7f}",
+        "GOTO Lé",
+        "WHEN RESP(NORMAL) GOTO L\0",
+        "WHEN EVENT(DFHINITIAL) GOTO L\t",
+        "WHEN STATUS(ABEND) GOTO L\u{7f}",
+        "WHEN DATA('x') GOTO Lé",
+        "WHEN FIRED GOTO L\0",
+        "DEFINE PROCESS TRANSID(T1) PROGRAM(A)\t",
+        "ACQUIRE PROCESS\u{7f}",
+        "ACQUIRE ACTIVITYID(/1/2)é",
+        "PURGE ACQPROCESS\0",
+        "DEFINE ACTIVITY(A) TRANSID(T1) PROGRAM(B)\t",
+        "DEFINE ACTIVITY(A) EVENT(E) TRANSID(T1) PROGRAM(B)\u{7f}",
+        "DELETE ACTIVITY(A)é",
+        "RUN ACTIVITY(A) SYNCHRONOUS\0",
+        "RUN ACQPROCESS ASYNCHRONOUS INPUTEVENT(E)\t",
+        "LINK ACQACTIVITY\u{7f}",
+        "CHECK ACTIVITY(A)é",
+        "CANCEL ACQPROCESS\0",
+        "RESET ACQACTIVITY\t",
+        "SUSPEND ACTIVITY(A)\u{7f}",
+        "RESUME ACTIVITY(A)é",
+        "PUT CONTAINER(C) ACQPROCESS FROM('x')\0",
+        "PUT CONTAINER(C) ACQPROCESS FROM(FILL(3))\t",
+        "PUT CONTAINER(C) ACQPROCESS FROM(LAST)\u{7f}",
     ];
-    for (text, line, reason) in table {
-        assert!(rt; is_refused(rt.alloc(), text, line, reason), "{text}");
+    for line in lines {
+        assert!(rt;
+            is_refused_inside(rt.alloc(), line, Word::Character),
+            "{line}"
+        );
     }
     Ok(())
 }
 
-/// What FROM takes is a literal, or FILL and a number up to 1,100,000.
+/// A byte that is no printable character of ASCII, in a line of each form.
 #[test]
-fn no_literal_2(rt: HostRuntime) -> Result<(), Fail> {
-    let table = [(
-        "REQUEST T P\nPUT CONTAINER(C) ACQPROCESS FROM(last)\nEND",
-        2,
-        Word::Literal,
-    )];
-    for (text, line, reason) in table {
-        assert!(rt; is_refused(rt.alloc(), text, line, reason), "{text}");
+fn bytes_that_are_no_characters_2(rt: HostRuntime) -> Result<(), Fail> {
+    let lines = [
+        "PUT CONTAINER(C) PROCESS FROM('x')é",
+        "PUT CONTAINER(C) FROM('x')\0",
+        "GET CONTAINER(C) ACQPROCESS\t",
+        "GET CONTAINER(C) ACTIVITY(A)\u{7f}",
+        "DELETE CONTAINER(C) ACQPROCESSé",
+        "DEFINE INPUT EVENT(E)\0",
+        "DEFINE COMPOSITE EVENT(E) AND\t",
+        "DEFINE COMPOSITE EVENT(E) OR SUBEVENT(A) SUBEVENT(B)\u{7f}",
+        "ADD SUBEVENT(S) EVENT(E)é",
+        "REMOVE SUBEVENT(S) EVENT(E)\0",
+        "DELETE EVENT(E)\t",
+        "TEST EVENT(E)\u{7f}",
+        "RETRIEVE REATTACH EVENTé",
+        "RETRIEVE SUBEVENT EVENT(E)\0",
+        "DEFINE TIMER(T) AFTER(60)\t",
+        "DEFINE TIMER(T) EVENT(E) AT(1970-01-01T00:01:00)\u{7f}",
+        "FORCE TIMER(T)é",
+        "FORCE TIMER(T) ACQPROCESS\0",
+        "CHECK TIMER(T)\t",
+        "DELETE TIMER(T)\u{7f}",
+        "RETURNé",
+        "RETURN ENDACTIVITY\0",
+        "ABEND ABCODE(C)\t",
+        "ROLLBACK\u{7f}",
+    ];
+    for line in lines {
+        assert!(rt;
+            is_refused_inside(rt.alloc(), line, Word::Character),
+            "{line}"
+        );
+    }
+    Ok(())
+}
+
+/// A word too many, in a line of each form.
+#[test]
+fn words_too_many_1(rt: HostRuntime) -> Result<(), Fail> {
+    let lines = [
+        "LABEL L X",
+        "GOTO L X",
+        "WHEN RESP(NORMAL) GOTO L X",
+        "WHEN EVENT(DFHINITIAL) GOTO L X",
+        "WHEN STATUS(ABEND) GOTO L X",
+        "WHEN DATA('x') GOTO L X",
+        "WHEN FIRED GOTO L X",
+        "DEFINE PROCESS TRANSID(T1) PROGRAM(A) X",
+        "ACQUIRE PROCESS X",
+        "ACQUIRE ACTIVITYID(/1/2) X",
+        "PURGE ACQPROCESS X",
+        "DEFINE ACTIVITY(A) TRANSID(T1) PROGRAM(B) X",
+        "DEFINE ACTIVITY(A) EVENT(E) TRANSID(T1) PROGRAM(B) X",
+        "DELETE ACTIVITY(A) X",
+        "RUN ACTIVITY(A) SYNCHRONOUS X",
+        "RUN ACQPROCESS ASYNCHRONOUS INPUTEVENT(E) X",
+        "LINK ACQACTIVITY X",
+        "CHECK ACTIVITY(A) X",
+        "CANCEL ACQPROCESS X",
+        "RESET ACQACTIVITY X",
+        "SUSPEND ACTIVITY(A) X",
+        "RESUME ACTIVITY(A) X",
+        "PUT CONTAINER(C) ACQPROCESS FROM('x') X",
+        "PUT CONTAINER(C) ACQPROCESS FROM(FILL(3)) X",
+        "PUT CONTAINER(C) ACQPROCESS FROM(LAST) X",
+    ];
+    for line in lines {
+        assert!(rt; is_refused_inside(rt.alloc(), line, Word::Word), "{line}");
+    }
+    Ok(())
+}
+
+/// A word too many, in a line of each form.
+#[test]
+fn words_too_many_2(rt: HostRuntime) -> Result<(), Fail> {
+    let lines = [
+        "PUT CONTAINER(C) PROCESS FROM('x') X",
+        "PUT CONTAINER(C) FROM('x') X",
+        "GET CONTAINER(C) ACQPROCESS X",
+        "GET CONTAINER(C) ACTIVITY(A) X",
+        "DELETE CONTAINER(C) ACQPROCESS X",
+        "DEFINE INPUT EVENT(E) X",
+        "DEFINE COMPOSITE EVENT(E) AND X",
+        "DEFINE COMPOSITE EVENT(E) OR SUBEVENT(A) SUBEVENT(B) X",
+        "ADD SUBEVENT(S) EVENT(E) X",
+        "REMOVE SUBEVENT(S) EVENT(E) X",
+        "DELETE EVENT(E) X",
+        "TEST EVENT(E) X",
+        "RETRIEVE REATTACH EVENT X",
+        "RETRIEVE SUBEVENT EVENT(E) X",
+        "DEFINE TIMER(T) AFTER(60) X",
+        "DEFINE TIMER(T) EVENT(E) AT(1970-01-01T00:01:00) X",
+        "FORCE TIMER(T) X",
+        "FORCE TIMER(T) ACQPROCESS X",
+        "CHECK TIMER(T) X",
+        "DELETE TIMER(T) X",
+        "RETURN X",
+        "RETURN ENDACTIVITY X",
+        "ABEND ABCODE(C) X",
+        "ROLLBACK X",
+    ];
+    for line in lines {
+        assert!(rt; is_refused_inside(rt.alloc(), line, Word::Word), "{line}");
+    }
+    Ok(())
+}
+
+/// Forms that are not let through yet, whatever else is wrong with the line.
+#[test]
+fn forms_that_are_not_let_through_1(rt: HostRuntime) -> Result<(), Fail> {
+    let lines = [
+        "LABEL L",
+        "GOTO L",
+        "WHEN RESP(NORMAL) GOTO L",
+        "WHEN EVENT(DFHINITIAL) GOTO L",
+        "WHEN STATUS(ABEND) GOTO L",
+        "WHEN DATA('x') GOTO L",
+        "WHEN FIRED GOTO L",
+        "ACQUIRE PROCESS",
+        "ACQUIRE ACTIVITYID(/1/2)",
+        "PURGE ACQPROCESS",
+        "DEFINE ACTIVITY(A) TRANSID(T1) PROGRAM(B)",
+        "DEFINE ACTIVITY(A) EVENT(E) TRANSID(T1) PROGRAM(B)",
+        "DELETE ACTIVITY(A)",
+        "RUN ACTIVITY(A) SYNCHRONOUS",
+        "RUN ACQPROCESS ASYNCHRONOUS INPUTEVENT(E)",
+        "LINK ACQACTIVITY",
+        "CHECK ACTIVITY(A)",
+        "CANCEL ACQPROCESS",
+        "RESET ACQACTIVITY",
+        "SUSPEND ACTIVITY(A)",
+        "RESUME ACTIVITY(A)",
+        "PUT CONTAINER(C) ACQPROCESS FROM(LAST)",
+    ];
+    for line in lines {
+        assert!(rt; is_refused_inside(rt.alloc(), line, Word::NotYet), "{line}");
+    }
+    Ok(())
+}
+
+/// Forms that are not let through yet, whatever else is wrong with the line.
+#[test]
+fn forms_that_are_not_let_through_2(rt: HostRuntime) -> Result<(), Fail> {
+    let lines = [
+        "PUT CONTAINER(C) PROCESS FROM('x')",
+        "PUT CONTAINER(C) FROM('x')",
+        "GET CONTAINER(C) ACTIVITY(A)",
+        "DELETE CONTAINER(C) ACQPROCESS",
+        "DEFINE INPUT EVENT(E)",
+        "DEFINE COMPOSITE EVENT(E) AND",
+        "DEFINE COMPOSITE EVENT(E) OR SUBEVENT(A) SUBEVENT(B)",
+        "ADD SUBEVENT(S) EVENT(E)",
+        "REMOVE SUBEVENT(S) EVENT(E)",
+        "DELETE EVENT(E)",
+        "TEST EVENT(E)",
+        "RETRIEVE REATTACH EVENT",
+        "RETRIEVE SUBEVENT EVENT(E)",
+        "DEFINE TIMER(T) AFTER(60)",
+        "DEFINE TIMER(T) EVENT(E) AT(1970-01-01T00:01:00)",
+        "FORCE TIMER(T)",
+        "FORCE TIMER(T) ACQPROCESS",
+        "CHECK TIMER(T)",
+        "DELETE TIMER(T)",
+        "RETURN ENDACTIVITY",
+        "ABEND ABCODE(C)",
+        "ROLLBACK",
+    ];
+    for line in lines {
+        assert!(rt; is_refused_inside(rt.alloc(), line, Word::NotYet), "{line}");
+    }
+    Ok(())
+}
+
+/// Words that are left out, misspelled or in another order.
+#[test]
+fn lines_of_no_form_1(rt: HostRuntime) -> Result<(), Fail> {
+    let lines = [
+        "define PROCESS TRANSID(T1) PROGRAM(A)",
+        "DEFINE PROCESS",
+        "DEFINE PROCESS TRANSID(T1)",
+        "DEFINE PROCESS PROGRAM(A) TRANSID(T1)",
+        "DEFINE PROCESS TRANSID (T1) PROGRAM(A)",
+        "DEFINE PROCESS TRANSID(T1)x PROGRAM(A)",
+        "DEFINE PROCESS TRANSID(T1)) PROGRAM(A)",
+        "DEFINE PROCESS TRANSID(T1 PROGRAM(A)",
+        "DEFINE PROCESS TRANSID(T1) TRANSID(T1) PROGRAM(A)",
+        "DEFINE PROCESS TRANSIDS(T1) PROGRAM(A)",
+        "DEFINE PROCESS TRANSID T1 PROGRAM A",
+        "PUT CONTAINER(C) ACQPROCESS",
+        "PUT CONTAINER(C ACQPROCESS FROM('x')",
+        "PUT CONTAINER(C)B) ACQPROCESS FROM('x')",
+        "PUT CONTAINER (C) ACQPROCESS FROM('x')",
+        "PUT CONTAINER(C) FROM('a') ACQPROCESS",
+        "PUT CONTAINER(C) ACQPROCESS FROM('a')x",
+        "PUT CONTAINER(C) ACQPROCESS FROM ('a')",
+        "PUT CONTAINER(C) ACQPROCESS FROM('a'",
+        "PUT CONTAINER(C) ACQPROCESS ACQPROCESS FROM('a')",
+    ];
+    for line in lines {
+        assert!(rt; is_refused_inside(rt.alloc(), line, Word::Word), "{line}");
+    }
+    Ok(())
+}
+
+/// Words that are left out, misspelled or in another order.
+#[test]
+fn lines_of_no_form_2(rt: HostRuntime) -> Result<(), Fail> {
+    let lines = [
+        "PUT ACQPROCESS CONTAINER(C) FROM('a')",
+        "GET CONTAINER(C) ACQPROCESS PROCESS",
+        "GET ACQPROCESS CONTAINER(C)",
+        "GET CONTAINER C ACQPROCESS",
+        "GET CONTAINER(C) ACQPROCESS FROM('x')",
+        "GET CONTAINER(C)ACQPROCESS",
+        "RETURNS",
+        "RETURN ENDACTIVITY ENDACTIVITY",
+        "LABEL FROM(a b)",
+        "RUN ACQPROCESS",
+        "DEFINE COMPOSITE EVENT(E)",
+        "DEFINE COMPOSITE EVENT(E) OR SUBEVENT(A) SUBEVENT(B) SUBEVENT(C) SUBEVENT(D) SUBEVENT(E) SUBEVENT(F) SUBEVENT(G) SUBEVENT(H) SUBEVENT(I)",
+        "WHEN DATA('a') GOTO L)",
+        "WHEN FIRED",
+        "FORCE TIMER(T) ACTIVITY(A)",
+        "DEFINE TIMER(T)",
+        "DEFINE TIMER(T) AFTER(1) EVENT(E)",
+        "ABEND",
+        "ACQUIRE",
+    ];
+    for line in lines {
+        assert!(rt; is_refused_inside(rt.alloc(), line, Word::Word), "{line}");
+    }
+    Ok(())
+}
+
+/// Arguments that are no names; the first one from the left decides.
+#[test]
+fn arguments_that_are_no_names(rt: HostRuntime) -> Result<(), Fail> {
+    let lines = [
+        "DEFINE PROCESS TRANSID() PROGRAM(A)",
+        "DEFINE PROCESS TRANSID(T1) PROGRAM()",
+        "DEFINE PROCESS TRANSID(ABCDE) PROGRAM(A)",
+        "DEFINE PROCESS TRANSID(DFHA) PROGRAM(A)",
+        "DEFINE PROCESS TRANSID(T1) PROGRAM(ABCDEFGHI)",
+        "DEFINE PROCESS TRANSID(T1) PROGRAM(DFHROOT)",
+        "DEFINE PROCESS TRANSID(T*) PROGRAM(A)",
+        "PUT CONTAINER() ACQPROCESS FROM('x')",
+        "PUT CONTAINER(ABCDEFGHIJKLMNOPQ) ACQPROCESS FROM('x')",
+        "PUT CONTAINER(DFHROOT) ACQPROCESS FROM('x')",
+        "PUT CONTAINER(DFHX) ACQPROCESS FROM(abc)",
+        "PUT CONTAINER(A+B) ACQPROCESS FROM('x')",
+        "GET CONTAINER() ACQPROCESS",
+        "GET CONTAINER(DFHINITIAL) ACQPROCESS",
+        "GET CONTAINER(ABCDEFGHIJKLMNOPQ) ACQPROCESS",
+        "GET CONTAINER('C') ACQPROCESS",
+    ];
+    for line in lines {
+        assert!(rt; is_refused_inside(rt.alloc(), line, Word::Name), "{line}");
+    }
+    Ok(())
+}
+
+/// What FROM takes is a literal, or FILL and a number up to 1,100,000; it goes up to the last `)`.
+#[test]
+fn arguments_that_are_no_literals_1(rt: HostRuntime) -> Result<(), Fail> {
+    let lines = [
+        "PUT CONTAINER(C) ACQPROCESS FROM(abc)",
+        "PUT CONTAINER(C) ACQPROCESS FROM('a)",
+        "PUT CONTAINER(C) ACQPROCESS FROM(a')",
+        "PUT CONTAINER(C) ACQPROCESS FROM('a'b')",
+        "PUT CONTAINER(C) ACQPROCESS FROM('a'b)",
+        "PUT CONTAINER(C) ACQPROCESS FROM(x'00')",
+        "PUT CONTAINER(C) ACQPROCESS FROM(X'0')",
+        "PUT CONTAINER(C) ACQPROCESS FROM(X'0G')",
+        "PUT CONTAINER(C) ACQPROCESS FROM(X'00)",
+        "PUT CONTAINER(C) ACQPROCESS FROM(X00)",
+        "PUT CONTAINER(C) ACQPROCESS FROM()",
+        "PUT CONTAINER(C) ACQPROCESS FROM('a') ACTIVITY(B)",
+        "PUT CONTAINER(C) ACQPROCESS FROM( 'a')",
+    ];
+    for line in lines {
+        assert!(rt;
+            is_refused_inside(rt.alloc(), line, Word::Literal),
+            "{line}"
+        );
+    }
+    Ok(())
+}
+
+/// What FROM takes is a literal, or FILL and a number up to 1,100,000; it goes up to the last `)`.
+#[test]
+fn arguments_that_are_no_literals_2(rt: HostRuntime) -> Result<(), Fail> {
+    let lines = [
+        "PUT CONTAINER(C) ACQPROCESS FROM('a' )",
+        "PUT CONTAINER(C) ACQPROCESS FROM(FILL)",
+        "PUT CONTAINER(C) ACQPROCESS FROM(FILL())",
+        "PUT CONTAINER(C) ACQPROCESS FROM(FILL(01))",
+        "PUT CONTAINER(C) ACQPROCESS FROM(FILL(1100001))",
+        "PUT CONTAINER(C) ACQPROCESS FROM(FILL(-1))",
+        "PUT CONTAINER(C) ACQPROCESS FROM(FILL(3) )",
+        "PUT CONTAINER(C) ACQPROCESS FROM(FILL( 3))",
+        "PUT CONTAINER(C) ACQPROCESS FROM(FILL(x))",
+        "PUT CONTAINER(C) ACQPROCESS FROM(FILL(3)",
+        "PUT CONTAINER(C) ACQPROCESS FROM(FILL(4294967296))",
+        "PUT CONTAINER(C) ACQPROCESS FROM(LAST )",
+        "PUT CONTAINER(C) ACQPROCESS FROM(last)",
+    ];
+    for line in lines {
+        assert!(rt;
+            is_refused_inside(rt.alloc(), line, Word::Literal),
+            "{line}"
+        );
     }
     Ok(())
 }
@@ -1084,7 +501,7 @@ fn the_first_line_and_reason(rt: HostRuntime) -> Result<(), Fail> {
         ("* x\r\n\t\r\n", 2, Word::Character),
         ("\r\r\n", 1, Word::Character),
         ("\n\r", 2, Word::Character),
-        ("HELLO\t", 1, Word::Character),
+        ("HELLO\rX", 1, Word::Character),
         ("REQUEST T P\nHELLO\nHALLO\nEND", 2, Word::Word),
         ("REQUEST T P\nRETURN\nHELLO\nEND\nHALLO", 3, Word::Word),
         ("* one\n\n   \n  * two\nHELLO\n", 5, Word::Word),

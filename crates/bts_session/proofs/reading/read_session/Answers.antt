@@ -4,8 +4,8 @@ use Rattle.bts_session.proofs.Fronts.{few_lines}
 use Rattle.bts_session.proofs.Steps.{from_first, from_nothing}
 use Rattle.bts_session.proofs.reading.read_session.Goals as goal
 
-pub loop-next-init : goal.loop-next-init
-loop-next-init c =
+pub loop-line-init : goal.loop-line-init
+loop-line-init c =
     let lines = few_lines c.args.bytes.now in
     record {
       read = rw (c.new.ensures, c.new-2.ensures) (from_first is_built c.args.bytes.now c.if-bytes-gt-TEXT_LIMIT.false);
@@ -13,4 +13,4 @@ loop-next-init c =
     }
 
 pub returns : goal.returns
-returns c = sym c.loop-next.invariant.read ∙ rw c.in_default.ensures.lines (from_nothing is_built c.loop-next.session c.loop-next.left.number)
+returns c = sym c.loop-line.invariant.read ∙ rw c.in_default.ensures.lines (from_nothing is_built c.loop-line.session c.loop-line.left.number)
