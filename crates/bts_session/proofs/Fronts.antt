@@ -1,5 +1,5 @@
 -- Fronts of a text that end with a line feed: the lines of the text are theirs, and those of what stands behind.
-use Rattle.std.proofs.Common.{◌≡◌, ℕ, suc, ◌<◌, ◌≤◌, Bool, true, false, List, [], ◌∷◌, ◌++◌, refl, ap, sym, ◌∙◌, arith, length, take, ◌-◌, ◌⊎◌, inl, inr, subst, append_assoc, append-nil}
+use Rattle.std.proofs.Common.{◌≡◌, ℕ, ◌<◌, Bool, true, false, List, [], ◌∷◌, ◌++◌, refl, ap, sym, ◌∙◌, arith, length, take, ◌-◌, ◌⊎◌, inl, inr, subst, append_assoc, append-nil}
 use Rattle.std.specs.Prelude.{nat_eq, map}
 use Rattle.std.proofs.lemmas.List.{append_cancel_right, length-append}
 use Rattle.std.proofs.Math.Seq.{take-append_seam}
@@ -125,23 +125,3 @@ parted_by text rest front whole (inr closed) = rw whole (closed.with rest)
 
 pub lines_parted : (text rest : Bytes) (at : IsAt text rest) → lines_of text ≡ lines_of at.front ++ lines_of rest
 lines_parted text rest at = parted_by text rest at.front at.whole at.closed
-
--- ---- how many lines there are
-
-count_empty : (parts : List Bytes) → length (lines_among ([] ∷ parts)) ≤ suc (length (lines_among parts))
-count_empty [] = omega arith
-count_empty (part ∷ parts) = omega arith
-
-count_onto : (b : ℕ) (parts : List Bytes) → length (lines_among (onto_first b parts)) ≤ suc (length (lines_among parts))
-count_onto b [] = omega arith
-count_onto b (part ∷ []) = omega arith
-count_onto b (part ∷ next ∷ parts) = omega arith
-
-count_with : (b : ℕ) (bs : Bytes) (t : Bool) → nat_eq b 10 ≡ t → length (lines_of bs) ≤ length bs → length (lines_of (b ∷ bs)) ≤ suc (length bs)
-count_with b bs true h few = rw h (let e = count_empty (parts_of bs) in omega arith)
-count_with b bs false h few = rw h (let e = count_onto b (parts_of bs) in omega arith)
-
--- no text has more lines than bytes
-pub few_lines : (text : Bytes) → length (lines_of text) ≤ length text
-few_lines [] = omega arith
-few_lines (b ∷ bs) = count_with b bs (nat_eq b 10) refl (few_lines bs)

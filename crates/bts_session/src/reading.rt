@@ -113,10 +113,7 @@ fn read_request<'a>(
     ensures number { IfOk result (λ left. left.number + line_count left.text.now ≡ opening + 1 + line_count text.now) }
     ensures lines { IfOk result (λ left. line_count left.text.now ≤ line_count text.now) }
 {
-    let (script, left) = match read_script(alloc, Place::Request, opening, text) {
-        Ok(read) => read,
-        Err(error) => return Err(error),
-    };
+    let (script, left) = read_script(alloc, Place::Request, opening, text)?;
     add_item(session, Item::Request { key, script }, left)
 }
 
@@ -138,10 +135,7 @@ fn read_program<'a>(
     if session.programs.holds(name) {
         return Err(refused(opening, Word::Twice));
     }
-    let (script, left) = match read_script(alloc, Place::Program, opening, text) {
-        Ok(read) => read,
-        Err(error) => return Err(error),
-    };
+    let (script, left) = read_script(alloc, Place::Program, opening, text)?;
     match session.programs.push(name, script) {
         Ok(()) => Ok(left),
         Err(_) => Err(ScriptError::NoMemory),
@@ -194,7 +188,7 @@ fn read_said<'a>(
 }
 
 /// Reads one line that stands outside of blocks, and the block where the line opens one.
-#[tactic(auto, using(crate::proofs::Steps::from_skipped))]
+#[tactic(auto, using(crate::proofs::Steps::from_skipped, crate::proofs::Steps::from_end))]
 fn read_next<'a>(
     alloc: Global,
     session: &mut Session,

@@ -1,12 +1,7 @@
 use Rattle.std.proofs.Common.{sym, ◌∙◌}
 use Rattle.bts_script.specs.Built.{is_built}
-use Rattle.bts_script.specs.Lines.{lines_of}
-use Rattle.bts_session.proofs.Steps.{from_end, from_said, line_refused}
+use Rattle.bts_session.proofs.Steps.{from_said, line_refused}
 use Rattle.bts_session.proofs.reading.read_next.Goals as goal
-
-pub returns-then-ends_block-clause-read : goal.returns-then-ends_block-clause-read
-returns-then-ends_block-clause-read c =
-    rw c.refused.ensures (from_end is_built c.args.session.now c.args.number c.args.line.now (lines_of c.args.behind.now) (sym c.is_skipped.ensures ∙ c.if-is_skipped.false) (sym c.ends_block.ensures ∙ c.if-ends_block.true))
 
 pub returns-in-Ok-clause-read : goal.returns-in-Ok-clause-read
 returns-in-Ok-clause-read c =

@@ -1,6 +1,6 @@
 use Rattle.std.proofs.Common.{sym, ◌∙◌, arith}
 use Rattle.bts_script.specs.Built.{is_built}
-use Rattle.bts_session.proofs.Fronts.{few_lines}
+use Rattle.bts_script.proofs.FirstLines.{few_lines}
 use Rattle.bts_session.proofs.Steps.{from_first, from_nothing}
 use Rattle.bts_session.proofs.reading.read_session.Goals as goal
 
