@@ -11,5 +11,3 @@ pub mod Sound
 pub mod Lines
 pub mod Reports
 pub mod Blocks
-pub mod BadLines
-pub mod Sessions
