@@ -12,7 +12,7 @@ use Rattle.bts_forms.specs.declared.statement.Statement.{Statement}
 use Rattle.bts_script.specs.Built.{is_built}
 use Rattle.bts_script.specs.Blocks.{Numbered, Refusal, Through, ends_block, is_skipped, numbered, refused_at}
 use Rattle.bts_script.specs.Lines.{lines_of}
-use Rattle.bts_session.proofs.Fronts.{few_lines}
+use Rattle.bts_script.proofs.FirstLines.{few_lines}
 use Rattle.bts_session.proofs.Sectioning.{numbered_skipped, numbered_kept}
 use Rattle.bts_session.specs.Sessions.{Section, by_line, closed_block, nothing, outside, section_before, section_in, sections_in, sections_of, session_from, session_of, text_limit, then_on, unless_long, unless_twice}
 use Rattle.bts_session.specs.declared.session.Item.{Item}
