@@ -80,7 +80,7 @@ module _ (p : ActivityPath) (s : Process) where
 
   -- ---- what is found is there
 
-  found_there : (b : Bool) (q r : ActivityPath) → is_some (activity_at q s) ≡ b → cond b (Ok q) (Err missing) ≡ Ok r → is_some (activity_at r s) ≡ true
+  pub found_there : (b : Bool) (q r : ActivityPath) → is_some (activity_at q s) ≡ b → cond b (Ok q) (Err missing) ≡ Ok r → is_some (activity_at r s) ≡ true
   found_there true q r e h = let i : q ≡ r = cc in ap (λ x. is_some (activity_at x s)) (sym i) ∙ e
   found_there false q r e h = cc
 

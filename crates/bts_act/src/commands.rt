@@ -29,8 +29,9 @@ use bts_tree::{Activity, Scope};
 use std::alloc::Global;
 
 /// Does a command on containers, events or timers in the frame of the activity at a path: the reply and what
-/// is left are exactly its row. In a sound process no event is fired while its timer is UNEXPIRED. Its time grows
-/// with the pool that it changes; only a command that names a child looks through the activities of the process.
+/// is left are exactly its row. No event may be fired while its timer is UNEXPIRED, which holds of every sound
+/// process; `none_is_early` tests it. The time grows with the pool that is changed; only a command that names a child
+/// looks through the activities of the process.
 pub fn act(
     scope: &mut Scope,
     alloc: Global,

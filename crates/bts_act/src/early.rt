@@ -1,6 +1,9 @@
 // Events that are fired before their timers.
-ghost use Rattle.std.specs.Prelude.{◌≡◌, IsTrue, not};
+ghost use Rattle.std.specs.Prelude.{◌≡◌, List, IsTrue, not, true};
 ghost use Rattle.std.specs.List.{list_all};
+ghost use Rattle.bts_names.specs.Names.{ActivityPath};
+ghost use Rattle.bts_tree.specs.Processes.{Process};
+ghost use Rattle.bts_tree.specs.Soundness.{IsSoundInFrames};
 ghost use Rattle.bts_act.specs.Early.{has_none_early, is_early, none_early, waits_for};
 
 use bts_event::{Event, Trigger};
@@ -64,3 +67,8 @@ fn waits(trigger: &Trigger, timers: &TimerPool) -> bool
         None => false,
     }
 }
+
+/// In a sound process no event is fired while its timer is UNEXPIRED.
+pub fn a_sound_process_has_none_early()
+    ensures { (frames : List ActivityPath) (s : Process) → IsSoundInFrames frames s → none_early s ≡ true }
+{}

@@ -13,7 +13,7 @@ mod replies;
 mod timers;
 
 pub use commands::{act, delete_in, get_in, put_in};
-pub use early::none_is_early;
+pub use early::{a_sound_process_has_none_early, none_is_early};
 pub use places::Store;
 pub use replies::{Refusal, normal_reply, refused};
 pub use timers::{fire_unfired, force_timer};

@@ -1,5 +1,5 @@
 -- What a row says of a target or a place in a request's first frame is what it says of the activity or the containers that they name.
-use Rattle.std.proofs.Common.{◌≡◌, Bool, true, false, cond, [], Some, is_some, Result, Ok, Err, refl, sym, ap, subst, ◌∙◌}
+use Rattle.std.proofs.Common.{◌≡◌, true, [], Some, is_some, Result, Ok, Err, refl, sym, ap, subst, ◌∙◌}
 use Rattle.bts_names.specs.Names.{ActivityPath}
 use Rattle.bts_names.specs.Answer.{Answer, at_some, mapped}
 use Rattle.bts_names.specs.declared.reply.Reply.{Reply}
@@ -19,10 +19,10 @@ use Rattle.bts_act.specs.declared.places.Store.{Store}
 use Rattle.bts_act.specs.declared.places.Store.TheVariants as store
 use Rattle.bts_act.specs.declared.replies.Refusal.{Refusal}
 use Rattle.bts_act.specs.Does.{Does}
-use Rattle.bts_act.specs.Places.{IsThere, missing, store_at, tabled}
+use Rattle.bts_act.specs.Places.{IsThere, store_at, tabled}
 use Rattle.bts_act.specs.Replies.{refusal}
 use Rattle.bts_act.proofs.Lifts.{lift_does, refuses, unchanged}
-use Rattle.bts_act.proofs.Stores.{at_found, rest_case, store_case, stored_there, there_case}
+use Rattle.bts_act.proofs.Stores.{at_found, found_there, rest_case, store_case, stored_there, there_case}
 use Rattle.bts_request.specs.Places.{activity_of, if_there, process_at, root_of, store_of, target_of}
 
 module _ (s : Process) where
@@ -102,19 +102,15 @@ module _ (s : Process) where
 
   -- ---- what is found is there
 
-  cond_there : (b : Bool) (q r : ActivityPath) → is_some (activity_at q s) ≡ b → cond b (Ok q) (Err missing) ≡ Ok r → is_some (activity_at r s) ≡ true
-  cond_there true q r e k = let i : q ≡ r = cc in ap (λ x. is_some (activity_at x s)) (sym i) ∙ e
-  cond_there false q r e k = cc
-
   activity_there : (h : Held) (r : ActivityPath) → activity_of s h ≡ Ok r → is_some (activity_at r s) ≡ true
   activity_there held.Never r k = cc
   activity_there held.Process r k = cc
-  activity_there (held.Activity p) r k = cond_there (is_some (activity_at p s)) p r refl k
+  activity_there (held.Activity p) r k = found_there [] s (is_some (activity_at p s)) p r refl k
   activity_there held.Purged r k = cc
 
   root_there : (h : Held) (r : ActivityPath) → root_of s h ≡ Ok r → is_some (activity_at r s) ≡ true
   root_there held.Never r k = cc
-  root_there held.Process r k = cond_there (is_some (activity_at [] s)) [] r refl k
+  root_there held.Process r k = found_there [] s (is_some (activity_at [] s)) [] r refl k
   root_there (held.Activity p) r k = cc
   root_there held.Purged r k = cc
 

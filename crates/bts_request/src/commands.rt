@@ -19,9 +19,10 @@ use bts_rows::Held;
 use bts_tree::Scope;
 use std::alloc::Global;
 
-/// Does a command in a request's first frame: the reply and what is left are exactly its row. In a sound process no
-/// event is fired while its timer is UNEXPIRED. Its time grows with the pool that it changes; PURGE goes over all
-/// activities of the process.
+/// Does a command in a request's first frame: the reply, and what is left of the process and of what the request
+/// holds, are exactly its row. The command isn't RESET of what is acquired. No event may be fired while its timer is
+/// UNEXPIRED, which holds of every sound process; `bts_act::none_is_early` tests it. The time grows with the pool
+/// that is changed; PURGE and CANCEL go over all activities of the process.
 pub fn request(
     scope: &mut Scope,
     alloc: Global,
@@ -43,6 +44,7 @@ pub fn request(
     perform(scope, alloc, held, depth, moment, command)
 }
 
+/// The same, but for soundness.
 fn perform(
     scope: &mut Scope,
     alloc: Global,

@@ -18,7 +18,7 @@ use Rattle.bts_tree.specs.Modes.{is_mode_active}
 use Rattle.bts_tree.specs.Paths.{is_child_of, leads_to, number_of, parent_of}
 use Rattle.bts_tree.specs.Processes.{Process, activity_at, complete}
 use Rattle.bts_tree.specs.Soundness.{FitsChildren, FitsParent, IsSoundActivity, IsSoundInFrames, IsSoundTree, IsSoundUnder, children_of, is_abend, is_event_of_child, is_fired, is_incomplete, is_root, needs_event, parent_passes}
-use Rattle.bts_rows.proofs.Entries.{behind_first, here}
+use Rattle.bts_rows.proofs.Entries.{behind_first, both_so, here}
 use Rattle.bts_rows.proofs.InPlace.{parent_or, stands_at}
 use Rattle.bts_rows.proofs.Local.{completes_none}
 use Rattle.bts_rows.proofs.Order.{IsInOrder, leads_on, path_cmp}
@@ -113,14 +113,6 @@ sound_forced a sound = forced_case (is_complete a) a refl sound
 
 -- ---- paths
 
-root_leads : (p q : ActivityPath) → leads_to p q ≡ true → same q [] ≡ true → same p [] ≡ true
-root_leads [] q l h = refl
-root_leads (n ∷ p) [] l h = cc
-root_leads (n ∷ p) (m ∷ q) l h = cc
-
-both : (s t : Bool) → s ≡ true → t ≡ true → (s && t) ≡ true
-both s t e f = rw e f
-
 take_leads : (k : ℕ) (q : ActivityPath) → leads_to (take k q) q ≡ true
 take_leads k [] = by k
   where
@@ -128,7 +120,7 @@ take_leads k [] = by k
     by zero = refl
     by (suc k) = refl
 take_leads zero (m ∷ q) = refl
-take_leads (suc k) (m ∷ q) = both (nat_eq m m) (leads_to (take k q) q) (eq-eqb m m refl) (take_leads k q)
+take_leads (suc k) (m ∷ q) = both_so (nat_eq m m) (leads_to (take k q) q) (eq-eqb m m refl) (take_leads k q)
 
 parent_leads : (q : ActivityPath) → leads_to (parent_of q) q ≡ true
 parent_leads q = take_leads (length q - 1) q

@@ -23,6 +23,7 @@ use Rattle.bts_rows.specs.Targets.{AtActivity, Here, at_named, at_target, in_act
 use Rattle.bts_rows.specs.FamilyRows as row
 use Rattle.bts_rows.specs.Rows.{family_at}
 use Rattle.bts_rows.proofs.Edits.{HasOrder}
+use Rattle.bts_rows.proofs.Entries.{both_so}
 use Rattle.bts_rows.proofs.Frames.{found_passes, ordered_case, mapped_for, mapped_same, mapped_some, mapped_when, own_joined, unchanged_joined}
 use Rattle.bts_rows.proofs.Local.{IsLocal, join_local, local_added, local_both, local_complete, local_edited, local_none, local_removed}
 use Rattle.bts_rows.proofs.Order.{IsInOrder, leads_on, leads_own}
@@ -30,12 +31,9 @@ use Rattle.bts_rows.proofs.Parts.{activity_at-part, child_of-part, part_root}
 
 -- ---- paths of children
 
-both : (s t : Bool) → s ≡ true → t ≡ true → (s && t) ≡ true
-both s t e f = rw e f
-
 leads_append : (q r : ActivityPath) → leads_to q (q ++ r) ≡ true
 leads_append [] r = refl
-leads_append (m ∷ q) r = both (nat_eq m m) (leads_to q (q ++ r)) (eq-eqb m m refl) (leads_append q r)
+leads_append (m ∷ q) r = both_so (nat_eq m m) (leads_to q (q ++ r)) (eq-eqb m m refl) (leads_append q r)
 
 front_of : (q x : ActivityPath) → leads_to q x ≡ true → take (length q) x ≡ q
 front_of [] x l = refl
