@@ -11,3 +11,4 @@ pub mod Sound
 pub mod Lines
 pub mod Reports
 pub mod Blocks
+pub mod Units

@@ -7,5 +7,6 @@
 //! `Containers` and `Families` have those by subject; `Processes` and `Repositories` compute what becomes of trees and
 //! what is enabled; `Sound` has a process that is sound, and others that aren't, each for one reason. `Lines`, `Blocks`,
 //! `Sessions` and `BadLines` compute what lines, blocks of scripts and sessions say, and why lines are refused.
-//! `Reports` has reports and lists, byte for byte.
+//! `Reports` has reports and lists, byte for byte. `Units` has whole units of work: how their frames end, what stands
+//! behind them, and the account of their entries.
 #![tactic(auto)]
