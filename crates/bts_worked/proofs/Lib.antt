@@ -11,3 +11,12 @@ pub mod Sound
 pub mod Lines
 pub mod Reports
 pub mod Blocks
+pub mod Units
+pub mod Steps
+pub mod Runs
+pub mod EndingRuns
+pub mod EventRuns
+pub mod FamilyRuns
+pub mod Limits
+pub mod Legal
+pub mod Offers
