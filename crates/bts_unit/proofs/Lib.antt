@@ -1,0 +1,3 @@
+pub mod InFrames
+pub mod Shown
+pub mod Performed

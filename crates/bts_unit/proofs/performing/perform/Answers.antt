@@ -1,0 +1,47 @@
+use Rattle.std.proofs.Common.{sym, subst}
+use Rattle.bts_command.specs.declared.command.Command.TheVariants as command
+use Rattle.bts_unit.specs.Calls.{called_on_top}
+use Rattle.bts_unit.specs.OnWork.{Steps}
+use Rattle.bts_unit.specs.OnWork as on
+use Rattle.bts_unit.proofs.Performed.{Fits, abends, ends_none, returns, returns_fit, rolls, steps, steps_fit, steps_kept, there_of}
+use Rattle.bts_unit.proofs.performing.perform.Goals as goal
+
+pub return_from-requires-clause-there : goal.return_from-requires-clause-there
+return_from-requires-clause-there c = there_of c.args.work.now.frame c.args.work.now.scope.process c.requires.sound
+
+pub returns-in-Return-clause-ok : goal.returns-in-Return-clause-ok
+returns-in-Return-clause-ok c =
+    let w = c.args.work.now in
+    subst (λ x. Steps w c.return_from.new.work c.return_from.result (called_on_top x)) (sym c.in-Return.is)
+    (subst (λ y. Steps w y.1 y.0 (called_on_top (command.Return c.in-Return.end_activity))) (sym c.return_from.ensures) (returns w c.in-Return.end_activity c.requires.open))
+
+pub returns-in-Return-clause-fits : goal.returns-in-Return-clause-fits
+returns-in-Return-clause-fits c = subst (λ y. Fits y.1) (sym c.return_from.ensures) (returns_fit c.args.work.now c.in-Return.end_activity c.requires.fits)
+
+pub returns-in-Abend-clause-ok : goal.returns-in-Abend-clause-ok
+returns-in-Abend-clause-ok c =
+    let w = c.args.work.now in
+    subst (λ x. Steps w c.abend.new.work c.normal_reply.result (called_on_top x)) (sym c.in-Abend.is)
+    (subst (λ y. Steps w y c.normal_reply.result (called_on_top (command.Abend c.in-Abend.code))) (sym c.abend.ensures)
+    (subst (λ r. Steps w (on.abended c.in-Abend.code w) r (called_on_top (command.Abend c.in-Abend.code))) (sym c.normal_reply.ensures) (abends w c.in-Abend.code c.requires.open)))
+
+pub returns-in-Rollback-clause-ok : goal.returns-in-Rollback-clause-ok
+returns-in-Rollback-clause-ok c =
+    let w = c.args.work.now in
+    subst (λ x. Steps w c.roll_back.new.work c.roll_back.result (called_on_top x)) (sym c.in-Rollback.is)
+    (subst (λ y. Steps w y.1 y.0 (called_on_top command.Rollback)) (sym c.roll_back.ensures) (rolls w c.requires.open))
+
+pub step-requires-clause-goes_on : goal.step-requires-clause-goes_on
+step-requires-clause-goes_on c = ends_none c.args.command.now c.in_default.not-Return c.in_default.not-Abend c.in_default.not-Rollback
+
+pub returns-in_default : goal.returns-in_default
+returns-in_default c =
+    let w = c.args.work.now in
+    let x = c.args.command.now in
+    let goes_on = ends_none x c.in_default.not-Return c.in_default.not-Abend c.in_default.not-Rollback in
+    record {
+      ok = steps w x c.step.new.work c.step.result c.requires.open goes_on c.requires.one_frame c.step.ensures.row c.step.ensures.ok;
+      err = c.step.ensures.err;
+      kept = steps_kept w x c.step.new.work c.step.result c.requires.kept c.step.ensures.ok c.step.ensures.err;
+      fits = steps_fit w x c.step.new.work c.step.result c.requires.fits c.step.ensures.ok c.step.ensures.err;
+    }
