@@ -19,7 +19,7 @@ use Rattle.bts_unit.specs.Calls.{called_on_top}
 use Rattle.bts_unit.specs.Ends.{leaving_of}
 use Rattle.bts_unit.specs.Frames.{here}
 use Rattle.bts_unit.specs.OneFrame.{ends_frame, is_of_one_frame}
-use Rattle.bts_unit.specs.OnWork.{Steps, at_of, is_kept_there, is_there_in_frame, stepped}
+use Rattle.bts_unit.specs.OnWork.{GoesOn, IsOpenOrEnded, Steps, at_of, is_kept_there, is_there_in_frame, stepped}
 use Rattle.bts_unit.specs.OnWork as on
 use Rattle.bts_unit.specs.declared.work.FirstFrame.{FirstFrame}
 use Rattle.bts_unit.specs.declared.work.Work.{Work}
@@ -33,10 +33,6 @@ there_of (Some f) s sound = by f.at sound
     by : (at : Option ActivityPath) → IsSoundInFrames (option_to_list at) s → on.is_there_at at s ≡ true
     by None sound = refl
     by (Some p) sound = frame_there p s sound
-
--- the frame is open exactly where the unit hasn't ended
-abbrev pub Fits : Work → Type 0
-Fits w = is_none w.end ≡ is_some w.frame
 
 module _ (w : Work) where
   abbrev with_frame : Option FirstFrame → Work
@@ -95,36 +91,65 @@ module _ (w : Work) where
   steps_kept c new (Ok reply) k e f = ap (λ v. is_kept_there v.frame) e ∙ kept_marked (on.was_retrieved c reply) w.frame k
   steps_kept c new (Err x) k e f = ap (λ v. is_kept_there v.frame) f ∙ k
 
-  pub steps_fit : (c : Command) (new : Work) (r : Result Reply NoMemory) → Fits w
-      → IfOk r (λ reply. new ≡ stepped c reply new.scope.process new.held w) → OnErr r (new ≡ w) → Fits new
-  steps_fit c new (Ok reply) k e f = ap (λ v. is_none v.end) e ∙ k ∙ sym (ap (λ v. is_some v.frame) e ∙ fits_marked (on.was_retrieved c reply) w.frame)
-  steps_fit c new (Err x) k e f = subst Fits (sym f) k
+  stays : IsOpenOrEnded w → GoesOn w w
+  stays k = record { open_or_ended = k; moment = refl; base = refl }
 
-  abends_fit : (code : Name) (o : Option FirstFrame) → Fits (with_frame o) → Fits (on.abended code (with_frame o))
-  abends_fit code None k = k
-  abends_fit code (Some f) k = refl
+  pub steps_go_on : (c : Command) (new : Work) (r : Result Reply NoMemory) → IsOpenOrEnded w
+      → IfOk r (λ reply. new ≡ stepped c reply new.scope.process new.held w) → OnErr r (new ≡ w) → GoesOn w new
+  steps_go_on c new (Ok reply) k e f =
+      record {
+        open_or_ended = ap (λ v. is_none v.end) e ∙ k ∙ sym (ap (λ v. is_some v.frame) e ∙ fits_marked (on.was_retrieved c reply) w.frame);
+        moment = ap (λ v. v.moment) e;
+        base = ap (λ v. v.base) e;
+      }
+  steps_go_on c new (Err x) k e f = subst (GoesOn w) (sym f) (stays k)
 
-  left_fits : (p : ActivityPath) (how : Leaving) (o : Option FirstFrame) → Fits (with_frame o) → Fits (on.left p how (with_frame o))
-  left_fits p leaving.Dormant o k = refl
-  left_fits p leaving.Complete o k = refl
-  left_fits p (leaving.Abended code) o k = abends_fit code o k
+  -- the unit's frame is this one
+  abbrev On : Option FirstFrame → Work → Type 0
+  On o new = IsOpenOrEnded (with_frame o) → GoesOn w new
 
-  returned_at_fits : (x g : Bool) (p : ActivityPath) (a : Option Activity) (o : Option FirstFrame) → Fits (with_frame o) → Fits (on.returned_at x g p a (with_frame o)).1
-  returned_at_fits x g p None o k = k
-  returned_at_fits x g p (Some a) o k = left_fits p (leaving_of x g a.pool) o k
+  keeps : (o : Option FirstFrame) → On o (with_frame o)
+  keeps o k = record { open_or_ended = k; moment = refl; base = refl }
 
-  returned_in_fits : (x g : Bool) (at : Option ActivityPath) (o : Option FirstFrame) → Fits (with_frame o) → Fits (on.returned_in x g at (with_frame o)).1
-  returned_in_fits true g None o k = k
-  returned_in_fits false g None o k = refl
-  returned_in_fits true g (Some p) o k = returned_at_fits true g p (activity_at p w.scope.process) o k
-  returned_in_fits false g (Some p) o k = returned_at_fits false g p (activity_at p w.scope.process) o k
+  abended_goes_on : (code : Name) (o : Option FirstFrame) → On o (on.abended code (with_frame o))
+  abended_goes_on code None k = keeps None k
+  abended_goes_on code (Some f) k = record { open_or_ended = refl; moment = refl; base = refl }
 
-  returned_fits : (x : Bool) (o : Option FirstFrame) → Fits (with_frame o) → Fits (on.returned x (with_frame o)).1
-  returned_fits x None k = k
-  returned_fits x (Some f) k = returned_in_fits x f.retrieved f.at (Some f) k
+  left_goes_on : (p : ActivityPath) (how : Leaving) (o : Option FirstFrame) → On o (on.left p how (with_frame o))
+  left_goes_on p leaving.Dormant o k = record { open_or_ended = refl; moment = refl; base = refl }
+  left_goes_on p leaving.Complete o k = record { open_or_ended = refl; moment = refl; base = refl }
+  left_goes_on p (leaving.Abended code) o k = abended_goes_on code o k
 
-  pub returns_fit : (x : Bool) → Fits w → Fits (on.returned x w).1
-  returns_fit x k = returned_fits x w.frame k
+  returned_at_goes_on : (x g : Bool) (p : ActivityPath) (a : Option Activity) (o : Option FirstFrame) → On o (on.returned_at x g p a (with_frame o)).1
+  returned_at_goes_on x g p None o k = keeps o k
+  returned_at_goes_on x g p (Some a) o k = left_goes_on p (leaving_of x g a.pool) o k
+
+  returned_in_goes_on : (x g : Bool) (at : Option ActivityPath) (o : Option FirstFrame) → On o (on.returned_in x g at (with_frame o)).1
+  returned_in_goes_on true g None o k = keeps o k
+  returned_in_goes_on false g None o k = record { open_or_ended = refl; moment = refl; base = refl }
+  returned_in_goes_on true g (Some p) o k = returned_at_goes_on true g p (activity_at p w.scope.process) o k
+  returned_in_goes_on false g (Some p) o k = returned_at_goes_on false g p (activity_at p w.scope.process) o k
+
+  returned_goes_on : (x : Bool) (o : Option FirstFrame) → On o (on.returned x (with_frame o)).1
+  returned_goes_on x None k = keeps None k
+  returned_goes_on x (Some f) k = returned_in_goes_on x f.retrieved f.at (Some f) k
+
+  pub returns_go_on : (x : Bool) → IsOpenOrEnded w → GoesOn w (on.returned x w).1
+  returns_go_on x k = returned_goes_on x w.frame k
+
+  pub abends_go_on : (code : Name) → IsOpenOrEnded w → GoesOn w (on.abended code w)
+  abends_go_on code k = abended_goes_on code w.frame k
+
+  rolled_in_goes_on : (f : FirstFrame) (at : Option ActivityPath) → On (Some f) (on.rolled_back_in f at (with_frame (Some f))).1
+  rolled_in_goes_on f None k = record { open_or_ended = refl; moment = refl; base = refl }
+  rolled_in_goes_on f (Some p) k = keeps (Some f) k
+
+  rolled_goes_on : (o : Option FirstFrame) → On o (on.rolled_back (with_frame o)).1
+  rolled_goes_on None k = keeps None k
+  rolled_goes_on (Some f) k = rolled_in_goes_on f f.at k
+
+  pub rolls_go_on : IsOpenOrEnded w → GoesOn w (on.rolled_back w).1
+  rolls_go_on k = rolled_goes_on w.frame k
 
 -- the commands that end no frame
 pub ends_none : (c : Command) → ((x : Bool) → c ≡ command.Return x → ⊥) → ((code : Name) → c ≡ command.Abend code → ⊥) → (c ≡ command.Rollback → ⊥) → ends_frame c ≡ false

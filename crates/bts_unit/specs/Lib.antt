@@ -7,3 +7,4 @@ pub mod Systems
 pub mod Playing
 pub mod OneFrame
 pub mod OnWork
+pub mod Replays

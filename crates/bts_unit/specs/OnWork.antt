@@ -1,5 +1,5 @@
 -- How the frame of a unit ends, on the parts of its work.
-use Rattle.std.specs.Prelude.{◌≡◌, Bool, true, false, ◌&&◌, List, [], ◌∷◌, Option, Some, None, is_none, is_some}
+use Rattle.std.specs.Prelude.{◌≡◌, ℕ, Bool, true, false, ◌&&◌, List, [], ◌∷◌, Option, Some, None, is_none, is_some}
 use Rattle.bts_names.specs.Names.{Name, ActivityPath}
 use Rattle.bts_names.specs.declared.reply.Leaving.{Leaving}
 use Rattle.bts_names.specs.declared.reply.Leaving.TheVariants as leaving
@@ -9,6 +9,7 @@ use Rattle.bts_names.specs.declared.state.Status.TheVariants as status
 use Rattle.bts_command.specs.declared.command.Call.{Call}
 use Rattle.bts_command.specs.declared.command.Command.{Command}
 use Rattle.bts_command.specs.declared.ended.End.{End}
+use Rattle.bts_command.specs.declared.ended.UnitKind.{UnitKind}
 use Rattle.bts_command.specs.declared.ended.End.TheVariants.{Commit, Rollback, Abend}
 use Rattle.bts_tree.specs.declared.activity.Activity.{Activity}
 use Rattle.bts_tree.specs.Activities.{by_cause}
@@ -16,11 +17,12 @@ use Rattle.bts_tree.specs.Modes.{waits}
 use Rattle.bts_tree.specs.Processes.{Process, activity_at, complete, edited}
 use Rattle.bts_tree.specs.Scopes.{HeldProcess, holding}
 use Rattle.bts_rows.specs.declared.held.Held.{Held}
+use Rattle.bts_rows.specs.declared.held.Held.TheVariants as held
 use Rattle.bts_rows.specs.Replies.{is_normal}
 use Rattle.bts_act.specs.Replies.{normal}
 use Rattle.bts_unit.specs.Calls.{is_retrieval}
 use Rattle.bts_unit.specs.Ends.{leaving_of, out_of_place}
-use Rattle.bts_unit.specs.Frames.{OpenFrame, UnitOfWork}
+use Rattle.bts_unit.specs.Frames.{OpenFrame, UnitOfWork, opened_at, path_of}
 use Rattle.bts_unit.specs.Standings.{Standing, standing}
 use Rattle.bts_unit.specs.Standings as standings
 use Rattle.bts_unit.specs.declared.work.FirstFrame.{FirstFrame}
@@ -64,6 +66,16 @@ was_retrieved c reply = is_retrieval c && is_normal reply.resp
 -- behind a command that was done or refused with a reply, this process and this acquired
 abbrev pub stepped : Command → Reply → Process → Held → Work → Work
 stepped c reply s h w = record w { scope = holding s w.scope; held = h; frame = retrieving (was_retrieved c reply) w.frame }
+
+-- the frame is open exactly where the unit hasn't ended
+abbrev pub IsOpenOrEnded : Work → Type 0
+IsOpenOrEnded w = is_none w.end ≡ is_some w.frame
+
+-- so it is behind a step, and the unit's moment and its process at the start are the same
+pub record GoesOn (old new : Work) : Type 0 where
+  pub open_or_ended : IsOpenOrEnded new
+  pub moment : new.moment ≡ old.moment
+  pub base : new.base ≡ old.base
 
 -- ---- ends
 
@@ -135,3 +147,19 @@ rolled_back_by (Some f) w = rolled_back_in f f.at w
 
 abbrev pub rolled_back : Work → Reply × Work
 rolled_back w = rolled_back_by w.frame w
+
+-- ---- the beginning
+
+abbrev pub opened : Option ActivityPath → ℕ → HeldProcess → HeldProcess → HeldProcess → Work
+opened at moment base kept scope =
+    record {
+      moment = moment;
+      base = base;
+      scope = holding (opened_at at scope.process) scope;
+      held = held.Never;
+      frame = Some (record { at = at; retrieved = false; kept = kept });
+      end = None;
+    }
+
+abbrev pub begun : UnitKind → ℕ → HeldProcess → Work
+begun kind moment scope = opened (path_of kind) moment scope scope scope

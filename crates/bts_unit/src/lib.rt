@@ -5,8 +5,14 @@
 //! (notices and expiries) and `Playing` (which ended units play, and what stands behind them).
 #![tactic(auto)]
 
+mod beginning;
+mod change;
 mod codes;
 mod ending;
 mod performing;
 mod rows;
+mod unit;
 mod work;
+
+pub use change::Change;
+pub use unit::Unit;

@@ -1,5 +1,5 @@
 // One command in the frame of a unit.
-ghost use Rattle.std.specs.Prelude.{◌≡◌, ◌<◌, ◌-◌, ◌^◌, IsTrue, IfOk, OnErr, Some, option_to_list, is_some, is_none, true, false};
+ghost use Rattle.std.specs.Prelude.{◌≡◌, ◌<◌, ◌-◌, ◌^◌, IsTrue, IfOk, OnErr, Some, option_to_list, is_some, true, false};
 ghost use Rattle.bts_command.specs.declared.command.Command.TheVariants as commands;
 ghost use Rattle.bts_tree.specs.Soundness.{IsSoundInFrames, numbers_below};
 ghost use Rattle.bts_tree.specs.Scopes.{holding};
@@ -78,7 +78,7 @@ fn step(work: &mut Work, alloc: Global, command: &Command) -> Result<Reply, NoMe
 /// One command in the frame of a unit that has one.
 pub(crate) fn perform(work: &mut Work, alloc: Global, command: &Command) -> Result<Reply, NoMemory>
     requires open { is_some work.old.frame ≡ true }
-    requires fits { is_none work.old.end ≡ is_some work.old.frame }
+    requires fits { on.IsOpenOrEnded work.old }
     requires kept { on.is_kept_there work.old.frame ≡ true }
     requires sound { IsSoundInFrames (option_to_list (on.at_of work.old.frame)) work.old.scope.process }
     requires numbers { IsTrue (numbers_below (2 ^ 64 - 1) work.old.scope.process) }
@@ -88,7 +88,7 @@ pub(crate) fn perform(work: &mut Work, alloc: Global, command: &Command) -> Resu
     ensures ok { IfOk result (λ reply. on.Steps work.old work.new reply (called_on_top command.now)) }
     ensures err { OnErr result (work.new ≡ work.old) }
     ensures kept { on.is_kept_there work.new.frame ≡ true }
-    ensures fits { is_none work.new.end ≡ is_some work.new.frame }
+    ensures goes_on { on.GoesOn work.old work.new }
 {
     match command {
         Command::Return { end_activity } => Ok(return_from(work, *end_activity)),

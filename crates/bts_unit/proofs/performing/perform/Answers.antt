@@ -1,9 +1,9 @@
 use Rattle.std.proofs.Common.{sym, subst}
 use Rattle.bts_command.specs.declared.command.Command.TheVariants as command
 use Rattle.bts_unit.specs.Calls.{called_on_top}
-use Rattle.bts_unit.specs.OnWork.{Steps}
+use Rattle.bts_unit.specs.OnWork.{GoesOn, Steps}
 use Rattle.bts_unit.specs.OnWork as on
-use Rattle.bts_unit.proofs.Performed.{Fits, abends, ends_none, returns, returns_fit, rolls, steps, steps_fit, steps_kept, there_of}
+use Rattle.bts_unit.proofs.Performed.{abends, abends_go_on, ends_none, returns, returns_go_on, rolls, rolls_go_on, steps, steps_go_on, steps_kept, there_of}
 use Rattle.bts_unit.proofs.performing.perform.Goals as goal
 
 pub return_from-requires-clause-there : goal.return_from-requires-clause-there
@@ -15,8 +15,14 @@ returns-in-Return-clause-ok c =
     subst (λ x. Steps w c.return_from.new.work c.return_from.result (called_on_top x)) (sym c.in-Return.is)
     (subst (λ y. Steps w y.1 y.0 (called_on_top (command.Return c.in-Return.end_activity))) (sym c.return_from.ensures) (returns w c.in-Return.end_activity c.requires.open))
 
-pub returns-in-Return-clause-fits : goal.returns-in-Return-clause-fits
-returns-in-Return-clause-fits c = subst (λ y. Fits y.1) (sym c.return_from.ensures) (returns_fit c.args.work.now c.in-Return.end_activity c.requires.fits)
+pub returns-in-Return-clause-goes_on : goal.returns-in-Return-clause-goes_on
+returns-in-Return-clause-goes_on c = subst (λ y. GoesOn c.args.work.now y.1) (sym c.return_from.ensures) (returns_go_on c.args.work.now c.in-Return.end_activity c.requires.fits)
+
+pub returns-in-Abend-clause-goes_on : goal.returns-in-Abend-clause-goes_on
+returns-in-Abend-clause-goes_on c = subst (GoesOn c.args.work.now) (sym c.abend.ensures) (abends_go_on c.args.work.now c.in-Abend.code c.requires.fits)
+
+pub returns-in-Rollback-clause-goes_on : goal.returns-in-Rollback-clause-goes_on
+returns-in-Rollback-clause-goes_on c = subst (λ y. GoesOn c.args.work.now y.1) (sym c.roll_back.ensures) (rolls_go_on c.args.work.now c.requires.fits)
 
 pub returns-in-Abend-clause-ok : goal.returns-in-Abend-clause-ok
 returns-in-Abend-clause-ok c =
@@ -43,5 +49,5 @@ returns-in_default c =
       ok = steps w x c.step.new.work c.step.result c.requires.open goes_on c.requires.one_frame c.step.ensures.row c.step.ensures.ok;
       err = c.step.ensures.err;
       kept = steps_kept w x c.step.new.work c.step.result c.requires.kept c.step.ensures.ok c.step.ensures.err;
-      fits = steps_fit w x c.step.new.work c.step.result c.requires.fits c.step.ensures.ok c.step.ensures.err;
+      goes_on = steps_go_on w x c.step.new.work c.step.result c.requires.fits c.step.ensures.ok c.step.ensures.err;
     }
