@@ -1,45 +1,19 @@
 -- Commands by their rows in the frame of an activity.
-use Rattle.std.proofs.Common.{◌≡◌, ℕ, Bool, true, false, cond, ◌||◌, nat_le, [], ◌∷◌, Some, is_some, refl, sym, ap, ◌∙◌}
-use Rattle.std.proofs.lemmas.Bool.{and_parts}
-use Rattle.std.specs.List.{filter, list_any}
-use Rattle.std.specs.Map.{keys_of}
-use Rattle.bts_names.specs.Names.{ActivityPath, same}
-use Rattle.bts_names.specs.Named.{lookup}
+use Rattle.std.proofs.Common.{◌≡◌, ℕ, Bool, true, false, cond, nat_le, refl, ap}
+use Rattle.bts_names.specs.Names.{ActivityPath}
 use Rattle.bts_names.specs.Answer.{Answer, refused, done, mapped}
 use Rattle.bts_names.specs.declared.reply.Resp.TheVariants as resp
 use Rattle.bts_names.specs.declared.reply.Reason.TheVariants as reason
 use Rattle.bts_command.specs.Numbers.{command_number}
 use Rattle.bts_command.specs.declared.command.Command.{Command}
 use Rattle.bts_command.specs.declared.command.Command.TheVariants as command
-use Rattle.bts_tree.specs.declared.activity.Activity.{Activity}
-use Rattle.bts_tree.specs.Activities.{Activities}
-use Rattle.bts_tree.specs.Modes.{is_mode_active}
-use Rattle.bts_tree.specs.Processes.{Process, activities, activity_at, join, part}
-use Rattle.bts_tree.specs.Soundness.{IsSoundInFrames}
+use Rattle.bts_tree.specs.Processes.{Process, join, part}
 use Rattle.bts_rows.specs.declared.held.Held.{Held}
 use Rattle.bts_rows.specs.ActRows.{act_row}
 use Rattle.bts_rows.specs.FamilyRows.{family_row}
 use Rattle.bts_rows.specs.RequestRows.{request_row}
 use Rattle.bts_rows.specs.Rows.{act_at, answer, keeping, row}
 use Rattle.bts_rows.specs.Targets.{in_activity}
-
--- ---- the activity of an open frame is there
-
-abbrev active : ActivityPath × Activity → Bool
-active x = is_mode_active x.1.mode
-
-there_in : (p : ActivityPath) (t : Activities) → list_any (same p) (keys_of (filter active t)) ≡ true → is_some (lookup p t) ≡ true
-there_in p [] h = cc
-there_in p (x ∷ t) h = by (same p x.0) (active x) refl (there_in p t) h
-  where
-    by : (b a : Bool) → same p x.0 ≡ b → (list_any (same p) (keys_of (filter active t)) ≡ true → is_some (lookup p t) ≡ true)
-        → list_any (same p) (keys_of (cond a (x ∷ filter active t) (filter active t))) ≡ true → is_some (cond b (Some x.1) (lookup p t)) ≡ true
-    by true a e i h = refl
-    by false true e i h = i (sym (ap (λ b. b || list_any (same p) (keys_of (filter active t))) e) ∙ h)
-    by false false e i h = i h
-
-pub frame_there : (p : ActivityPath) (s : Process) → IsSoundInFrames (p ∷ []) s → is_some (activity_at p s) ≡ true
-frame_there p s sound = there_in p (activities s) (and_parts _ _ (and_parts _ _ sound.active).1).0
 
 -- ---- rows in the frame of an activity
 

@@ -1,5 +1,5 @@
 -- One command in the frame of a unit, on its work.
-use Rattle.std.proofs.Common.{◌≡◌, Bool, true, false, Option, Some, None, Result, Ok, Err, IfOk, OnErr, is_some, is_none, option_to_list, refl, sym, ap, ◌∙◌, subst}
+use Rattle.std.proofs.Common.{◌≡◌, Bool, true, false, Option, Some, None, Result, Ok, Err, IfOk, OnErr, is_some, is_none, refl, sym, ap, ◌∙◌, subst}
 use Rattle.bts_names.specs.Names.{Name, ActivityPath}
 use Rattle.bts_names.specs.declared.memory.NoMemory.{NoMemory}
 use Rattle.bts_names.specs.declared.reply.Leaving.{Leaving}
@@ -10,7 +10,6 @@ use Rattle.bts_command.specs.declared.command.Command.{Command}
 use Rattle.bts_command.specs.declared.command.Command.TheVariants as command
 use Rattle.bts_tree.specs.declared.activity.Activity.{Activity}
 use Rattle.bts_tree.specs.Processes.{Process, activity_at}
-use Rattle.bts_tree.specs.Soundness.{IsSoundInFrames}
 use Rattle.bts_rows.specs.declared.held.Held.{Held}
 use Rattle.bts_rows.specs.Rows.{answer}
 use Rattle.bts_act.specs.Does.{Does}
@@ -19,20 +18,11 @@ use Rattle.bts_unit.specs.Calls.{called_on_top}
 use Rattle.bts_unit.specs.Ends.{leaving_of}
 use Rattle.bts_unit.specs.Frames.{here}
 use Rattle.bts_unit.specs.OneFrame.{ends_frame, is_of_one_frame}
-use Rattle.bts_unit.specs.OnWork.{GoesOn, IsOpenOrEnded, Steps, at_of, is_kept_there, is_there_in_frame, stepped}
+use Rattle.bts_unit.specs.OnWork.{GoesOn, IsOpenOrEnded, Steps, at_of, is_kept_there, stepped}
 use Rattle.bts_unit.specs.OnWork as on
 use Rattle.bts_unit.specs.declared.work.FirstFrame.{FirstFrame}
 use Rattle.bts_unit.specs.declared.work.Work.{Work}
-use Rattle.bts_unit.proofs.InFrames.{frame_there}
 use Rattle.bts_unit.proofs.Shown as shown
-
-pub there_of : (o : Option FirstFrame) (s : Process) → IsSoundInFrames (option_to_list (at_of o)) s → is_there_in_frame o s ≡ true
-there_of None s sound = refl
-there_of (Some f) s sound = by f.at sound
-  where
-    by : (at : Option ActivityPath) → IsSoundInFrames (option_to_list at) s → on.is_there_at at s ≡ true
-    by None sound = refl
-    by (Some p) sound = frame_there p s sound
 
 module _ (w : Work) where
   abbrev with_frame : Option FirstFrame → Work
@@ -136,6 +126,32 @@ module _ (w : Work) where
 
   pub returns_go_on : (x : Bool) → IsOpenOrEnded w → GoesOn w (on.returned x w).1
   returns_go_on x k = returned_goes_on x w.frame k
+
+  abended_kept : (code : Name) (o : Option FirstFrame) → is_kept_there o ≡ true → is_kept_there (on.abended code (with_frame o)).frame ≡ true
+  abended_kept code None k = k
+  abended_kept code (Some f) k = refl
+
+  left_kept : (p : ActivityPath) (how : Leaving) (o : Option FirstFrame) → is_kept_there o ≡ true → is_kept_there (on.left p how (with_frame o)).frame ≡ true
+  left_kept p leaving.Dormant o k = refl
+  left_kept p leaving.Complete o k = refl
+  left_kept p (leaving.Abended code) o k = abended_kept code o k
+
+  returned_at_kept : (x g : Bool) (p : ActivityPath) (a : Option Activity) (o : Option FirstFrame) → is_kept_there o ≡ true → is_kept_there (on.returned_at x g p a (with_frame o)).1.frame ≡ true
+  returned_at_kept x g p None o k = k
+  returned_at_kept x g p (Some a) o k = left_kept p (leaving_of x g a.pool) o k
+
+  returned_in_kept : (x g : Bool) (at : Option ActivityPath) (o : Option FirstFrame) → is_kept_there o ≡ true → is_kept_there (on.returned_in x g at (with_frame o)).1.frame ≡ true
+  returned_in_kept true g None o k = k
+  returned_in_kept false g None o k = refl
+  returned_in_kept true g (Some p) o k = returned_at_kept true g p (activity_at p w.scope.process) o k
+  returned_in_kept false g (Some p) o k = returned_at_kept false g p (activity_at p w.scope.process) o k
+
+  returned_kept : (x : Bool) (o : Option FirstFrame) → is_kept_there o ≡ true → is_kept_there (on.returned x (with_frame o)).1.frame ≡ true
+  returned_kept x None k = k
+  returned_kept x (Some f) k = returned_in_kept x f.retrieved f.at (Some f) k
+
+  pub returns_kept : (x : Bool) → is_kept_there w.frame ≡ true → is_kept_there (on.returned x w).1.frame ≡ true
+  returns_kept x k = returned_kept x w.frame k
 
   pub abends_go_on : (code : Name) → IsOpenOrEnded w → GoesOn w (on.abended code w)
   abends_go_on code k = abended_goes_on code w.frame k

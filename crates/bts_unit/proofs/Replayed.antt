@@ -15,9 +15,9 @@ use Rattle.bts_tree.specs.Scopes.{HeldProcess}
 use Rattle.bts_unit.specs.Calls.{call, called_by, called_in, called_in_top, called_on_top, commands_of, run, with_call}
 use Rattle.bts_unit.specs.Ends.{abended_whole}
 use Rattle.bts_unit.specs.Ends as ends
-use Rattle.bts_unit.specs.Frames.{OpenFrame, UnitOfWork, open_paths, path_of, start}
+use Rattle.bts_unit.specs.Frames.{OpenFrame, UnitOfWork, is_there_at, open_paths, path_of, start}
 use Rattle.bts_unit.specs.OneFrame.{may_begin}
-use Rattle.bts_unit.specs.OnWork.{GoesOn, IsOpenOrEnded, Leaves, Steps, at_of, frames_of, is_kept_there, is_there_at, unit_of}
+use Rattle.bts_unit.specs.OnWork.{GoesOn, IsOpenOrEnded, Leaves, Steps, at_of, frames_of, is_kept_there, unit_of}
 use Rattle.bts_unit.specs.OnWork as on
 use Rattle.bts_unit.specs.Replays.{IsWorkOf, behind_calls, top_path}
 use Rattle.bts_unit.specs.Standings.{with_process}

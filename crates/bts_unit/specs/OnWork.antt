@@ -22,7 +22,7 @@ use Rattle.bts_rows.specs.Replies.{is_normal}
 use Rattle.bts_act.specs.Replies.{normal}
 use Rattle.bts_unit.specs.Calls.{is_retrieval}
 use Rattle.bts_unit.specs.Ends.{leaving_of, out_of_place}
-use Rattle.bts_unit.specs.Frames.{OpenFrame, UnitOfWork, opened_at, path_of}
+use Rattle.bts_unit.specs.Frames.{OpenFrame, UnitOfWork, is_there_at, opened_at, path_of}
 use Rattle.bts_unit.specs.Standings.{Standing, standing}
 use Rattle.bts_unit.specs.Standings as standings
 use Rattle.bts_unit.specs.declared.work.FirstFrame.{FirstFrame}
@@ -79,20 +79,10 @@ pub record GoesOn (old new : Work) : Type 0 where
 
 -- ---- ends
 
--- the activity of a frame is there
-abbrev pub is_there_at : Option ActivityPath → Process → Bool
-is_there_at None s = true
-is_there_at (Some p) s = is_some (activity_at p s)
-
--- also in what the frame kept
+-- the activity of the frame is there in what it kept
 abbrev pub is_kept_there : Option FirstFrame → Bool
 is_kept_there None = true
 is_kept_there (Some f) = is_there_at f.at f.kept.process
-
--- and in this process
-abbrev pub is_there_in_frame : Option FirstFrame → Process → Bool
-is_there_in_frame None s = true
-is_there_in_frame (Some f) s = is_there_at f.at s
 
 abbrev pub is_of_request : Option FirstFrame → Bool
 is_of_request None = false

@@ -3,7 +3,7 @@ ghost use Rattle.std.specs.Prelude.{◌≡◌, true, IfOk, OnErr, IfErr, IsSome,
 ghost use Rattle.bts_tree.specs.Activities.{by_cause};
 ghost use Rattle.bts_tree.specs.Modes.{frame_opens};
 ghost use Rattle.bts_tree.specs.Scopes.{holding};
-ghost use Rattle.bts_unit.specs.Frames.{opened_at, path_of as path_by};
+ghost use Rattle.bts_unit.specs.Frames.{is_there_at, opened_at, path_of as path_by};
 ghost use Rattle.bts_unit.specs.OneFrame.{may_begin};
 ghost use Rattle.bts_unit.specs.OnWork as on;
 
@@ -34,7 +34,7 @@ fn activate(activity: &mut Activity)
 }
 
 fn open_at(scope: &mut Scope, at: &Option<Path>)
-    requires { on.is_there_at at.now scope.old.process ≡ true }
+    requires { is_there_at at.now scope.old.process ≡ true }
     ensures { scope.new ≡ holding (opened_at at.now scope.old.process) scope.old }
 {
     scope.facts();
@@ -64,7 +64,7 @@ pub(crate) fn begin(
 }
 
 fn opened(mut scope: Scope, base: Scope, kept: Scope, at: Option<Path>, moment: Moment) -> Work
-    requires { on.is_there_at at scope.process ≡ true }
+    requires { is_there_at at scope.process ≡ true }
     ensures { result ≡ on.opened at moment base kept scope }
 {
     open_at(&mut scope, &at);

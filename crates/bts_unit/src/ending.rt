@@ -4,6 +4,7 @@ ghost use Rattle.bts_tree.specs.Activities.{by_cause};
 ghost use Rattle.bts_tree.specs.Modes.{waits};
 ghost use Rattle.bts_tree.specs.Processes.{activity_at};
 ghost use Rattle.bts_unit.specs.Ends.{leaving_of as leaving_by};
+ghost use Rattle.bts_unit.specs.Frames.{is_there_at};
 ghost use Rattle.bts_unit.specs.OnWork as on;
 
 use crate::codes::{children_left, no_retrieval};
@@ -38,7 +39,7 @@ pub(crate) fn abend(work: &mut Work, code: Abcode)
 }
 
 fn with_completed(at: Option<Path>, code: Abcode, mut kept: Scope) -> Scope
-    requires { on.is_there_at at kept.process ≡ true }
+    requires { is_there_at at kept.process ≡ true }
     ensures { result ≡ on.with_completed at code kept }
 {
     kept.facts();
@@ -132,7 +133,7 @@ fn return_from_request(work: &mut Work, end_activity: bool) -> Reply
 
 /// RETURN: how it leaves an activity's frame is told.
 pub(crate) fn return_from(work: &mut Work, end_activity: bool) -> Reply
-    requires there { on.is_there_in_frame work.old.frame work.old.scope.process ≡ true }
+    requires there { is_there_at (on.at_of work.old.frame) work.old.scope.process ≡ true }
     requires kept { on.is_kept_there work.old.frame ≡ true }
     ensures { (result, work.new) ≡ on.returned end_activity work.old }
 {

@@ -1,15 +1,16 @@
 // One command in the frame of a unit.
-ghost use Rattle.std.specs.Prelude.{◌≡◌, ◌<◌, ◌-◌, ◌^◌, IsTrue, IfOk, OnErr, Some, option_to_list, is_some, true, false};
+ghost use Rattle.std.specs.Prelude.{◌≡◌, ◌<◌, ◌-◌, ◌^◌, IsTrue, IfOk, OnErr, Some, is_some, true, false};
 ghost use Rattle.bts_command.specs.declared.command.Command.TheVariants as commands;
-ghost use Rattle.bts_tree.specs.Soundness.{IsSoundInFrames, numbers_below};
+ghost use Rattle.bts_tree.specs.Soundness.{numbers_below};
 ghost use Rattle.bts_tree.specs.Scopes.{holding};
 ghost use Rattle.bts_rows.specs.Given.{IsGiven};
 ghost use Rattle.bts_rows.specs.Replies.{is_normal};
 ghost use Rattle.bts_rows.specs.Rows.{answer};
 ghost use Rattle.bts_act.specs.Does.{Does};
+ghost use Rattle.bts_act.specs.Early.{none_early};
 ghost use Rattle.bts_act.specs.Replies.{normal};
 ghost use Rattle.bts_unit.specs.Calls.{called_on_top, is_retrieval};
-ghost use Rattle.bts_unit.specs.Frames.{here};
+ghost use Rattle.bts_unit.specs.Frames.{here, is_there_at};
 ghost use Rattle.bts_unit.specs.OneFrame.{is_of_one_frame, ends_frame};
 ghost use Rattle.bts_unit.specs.OnWork as on;
 
@@ -50,7 +51,8 @@ fn note_retrieval(frame: &mut Option<FirstFrame>, retrieved: bool)
 
 /// A command that ends no frame.
 fn step(work: &mut Work, alloc: Global, command: &Command) -> Result<Reply, NoMemory>
-    requires sound { IsSoundInFrames (option_to_list (on.at_of work.old.frame)) work.old.scope.process }
+    requires there { is_there_at (on.at_of work.old.frame) work.old.scope.process ≡ true }
+    requires late { IsTrue (none_early work.old.scope.process) }
     requires numbers { IsTrue (numbers_below (2 ^ 64 - 1) work.old.scope.process) }
     requires generation { work.old.scope.process.generation < 2 ^ 64 - 1 }
     requires given { IsGiven command.now }
@@ -80,7 +82,8 @@ pub(crate) fn perform(work: &mut Work, alloc: Global, command: &Command) -> Resu
     requires open { is_some work.old.frame ≡ true }
     requires fits { on.IsOpenOrEnded work.old }
     requires kept { on.is_kept_there work.old.frame ≡ true }
-    requires sound { IsSoundInFrames (option_to_list (on.at_of work.old.frame)) work.old.scope.process }
+    requires there { is_there_at (on.at_of work.old.frame) work.old.scope.process ≡ true }
+    requires late { IsTrue (none_early work.old.scope.process) }
     requires numbers { IsTrue (numbers_below (2 ^ 64 - 1) work.old.scope.process) }
     requires generation { work.old.scope.process.generation < 2 ^ 64 - 1 }
     requires given { IsGiven command.now }

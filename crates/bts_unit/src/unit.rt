@@ -2,8 +2,9 @@
 ghost use Rattle.std.specs.Prelude.{◌≡◌, ◌<◌, ◌-◌, ◌^◌, IsTrue, IfOk, OnOk, OnErr, IfErr, Some, None, is_none, is_some, true, length, ◌++◌, ◌∷◌, []};
 ghost use Rattle.std.specs.List.{slice_get};
 ghost use Rattle.std.specs.Option.{option_map};
-ghost use Rattle.bts_tree.specs.Soundness.{IsSoundInFrames, numbers_below};
+ghost use Rattle.bts_tree.specs.Soundness.{numbers_below};
 ghost use Rattle.bts_rows.specs.Given.{IsGiven};
+ghost use Rattle.bts_act.specs.Early.{none_early};
 ghost use Rattle.bts_unit.specs.Calls as calls;
 ghost use Rattle.bts_unit.specs.Ends.{abended_whole};
 ghost use Rattle.bts_unit.specs.Frames as frames;
@@ -78,10 +79,12 @@ impl Unit {
     }
 
     /// Does a command in the frame, and keeps it with its reply, which `last_reply` reads. The unit must not have
-    /// ended, and its process must be sound with the unit's frames. Where there is no memory the unit is as it was.
+    /// ended, and the activity of its frame must be there. In a sound process it is, and no event is fired while its timer is
+    /// UNEXPIRED. Where there is no memory the unit is as it was.
     pub fn call(&mut self, command: Command) -> Result<(), NoMemory>
         requires open { is_none self.old.end ≡ true }
-        requires sound { IsSoundInFrames (frames.open_paths self.old) self.old.now.process }
+        requires there { frames.is_there_at (top_path self.old.frames) self.old.now.process ≡ true }
+        requires late { IsTrue (none_early self.old.now.process) }
         requires numbers { IsTrue (numbers_below (2 ^ 64 - 1) self.old.now.process) }
         requires generation { self.old.now.process.generation < 2 ^ 64 - 1 }
         requires given { IsGiven command }

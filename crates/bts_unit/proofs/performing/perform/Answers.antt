@@ -1,13 +1,10 @@
-use Rattle.std.proofs.Common.{sym, subst}
+use Rattle.std.proofs.Common.{sym, ap, ◌∙◌, subst}
 use Rattle.bts_command.specs.declared.command.Command.TheVariants as command
 use Rattle.bts_unit.specs.Calls.{called_on_top}
-use Rattle.bts_unit.specs.OnWork.{GoesOn, Steps}
+use Rattle.bts_unit.specs.OnWork.{GoesOn, Steps, is_kept_there}
 use Rattle.bts_unit.specs.OnWork as on
-use Rattle.bts_unit.proofs.Performed.{abends, abends_go_on, ends_none, returns, returns_go_on, rolls, rolls_go_on, steps, steps_go_on, steps_kept, there_of}
+use Rattle.bts_unit.proofs.Performed.{abends, abends_go_on, ends_none, returns, returns_go_on, returns_kept, rolls, rolls_go_on, steps, steps_go_on, steps_kept}
 use Rattle.bts_unit.proofs.performing.perform.Goals as goal
-
-pub return_from-requires-clause-there : goal.return_from-requires-clause-there
-return_from-requires-clause-there c = there_of c.args.work.now.frame c.args.work.now.scope.process c.requires.sound
 
 pub returns-in-Return-clause-ok : goal.returns-in-Return-clause-ok
 returns-in-Return-clause-ok c =
@@ -23,6 +20,9 @@ returns-in-Abend-clause-goes_on c = subst (GoesOn c.args.work.now) (sym c.abend.
 
 pub returns-in-Rollback-clause-goes_on : goal.returns-in-Rollback-clause-goes_on
 returns-in-Rollback-clause-goes_on c = subst (λ y. GoesOn c.args.work.now y.1) (sym c.roll_back.ensures) (rolls_go_on c.args.work.now c.requires.fits)
+
+pub returns-in-Return-clause-kept : goal.returns-in-Return-clause-kept
+returns-in-Return-clause-kept c = ap (λ y. is_kept_there y.1.frame) c.return_from.ensures ∙ returns_kept c.args.work.now c.in-Return.end_activity c.requires.kept
 
 pub returns-in-Abend-clause-ok : goal.returns-in-Abend-clause-ok
 returns-in-Abend-clause-ok c =

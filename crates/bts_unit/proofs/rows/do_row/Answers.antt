@@ -1,12 +1,8 @@
 use Rattle.std.proofs.Common.{sym, subst}
-use Rattle.bts_act.proofs.Late.{sound_none_early}
 use Rattle.bts_act.specs.Does.{Does}
 use Rattle.bts_rows.specs.Rows.{answer}
 use Rattle.bts_unit.specs.Frames.{here}
 use Rattle.bts_unit.proofs.rows.do_row.Goals as goal
-
-pub request-requires-clause-late : goal.request-requires-clause-late
-request-requires-clause-late c = sound_none_early _ c.args.scope.now.process c.requires.sound
 
 pub returns-in-None-clause-row : goal.returns-in-None-clause-row
 unfolding answer

@@ -1,21 +1,14 @@
 use Rattle.std.proofs.Common.{refl, sym, subst, arith}
-use Rattle.bts_act.proofs.Late.{sound_none_early}
 use Rattle.bts_act.proofs.Lifts.{lift_does, refuses}
 use Rattle.bts_act.specs.Does.{Does}
 use Rattle.bts_rows.specs.Rows.{act_at}
-use Rattle.bts_unit.proofs.InFrames.{frame_there, of_activity, out_of_frame}
+use Rattle.bts_unit.proofs.InFrames.{of_activity, out_of_frame}
 use Rattle.bts_unit.proofs.rows.in_activity.Goals as goal
 
 pub returns-then-number-le4-clause-row : goal.returns-then-number-le4-clause-row
 returns-then-number-le4-clause-row c =
     let s = c.args.scope.now.process in
     refuses c.refused.result (s, c.args.held) _ _ (out_of_frame c.args.path.now c.args.held 1 c.args.moment s c.args.command.now (grind arith)) c.refused.ensures refl
-
-pub act-requires-clause-there : goal.act-requires-clause-there
-act-requires-clause-there c = frame_there c.args.path.now c.args.scope.now.process c.requires.sound
-
-pub act-requires-clause-late : goal.act-requires-clause-late
-act-requires-clause-late c = sound_none_early _ c.args.scope.now.process c.requires.sound
 
 pub returns-clause-row : goal.returns-clause-row
 returns-clause-row c =
