@@ -80,15 +80,27 @@ called_in frame below u (command.Abend code) = (normal value.Nothing, abended fr
 called_in frame below u command.Rollback = rolled_back frame.at frame u
 called_in frame below u c = done_in frame below u c
 
+-- in the top frame of a unit that has one
+abbrev pub called_in_top : List OpenFrame → UnitOfWork → Command → Reply × UnitOfWork
+called_in_top [] u c = (out_of_place, u)
+called_in_top (f ∷ fs) u c = called_in f fs u c
+
+abbrev pub called_on_top : Command → UnitOfWork → Reply × UnitOfWork
+called_on_top c u = called_in_top u.frames u c
+
 -- ---- calls
 
 -- one call more
 abbrev pub with_call : Command → Reply × UnitOfWork → Reply × UnitOfWork
 with_call c x = (x.0, record (x.1) { calls = x.1.calls ++ record { command = c; reply = x.0 } ∷ [] })
 
+abbrev pub called_by : List OpenFrame → UnitOfWork → Command → Reply × UnitOfWork
+called_by [] u c = (out_of_place, u)
+called_by (f ∷ fs) u c = with_call c (called_in f fs u c)
+
 -- the reply to a command, and the unit behind it; a unit that has ended stays as it is
 unfoldable pub call : UnitOfWork → Command → Reply × UnitOfWork
-call u c = elim u.frames [ [] ↦ (out_of_place, u) | f ∷ fs ↦ with_call c (called_in f fs u c) ]
+call u c = called_by u.frames u c
 
 -- the unit behind commands, as far as it hasn't ended
 unfoldable pub run : UnitOfWork → List Command → UnitOfWork

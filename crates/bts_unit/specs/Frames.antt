@@ -1,5 +1,5 @@
 -- The open frames of a unit of work, and how it begins.
-use Rattle.std.specs.Prelude.{ℕ, Bool, false, List, [], ◌∷◌, Option, Some, None}
+use Rattle.std.specs.Prelude.{ℕ, Bool, true, false, List, [], ◌∷◌, Option, Some, None, is_some}
 use Rattle.std.specs.List.{filter_map}
 use Rattle.bts_names.specs.Names.{ActivityPath}
 use Rattle.bts_command.specs.declared.command.Call.{Call}
@@ -8,7 +8,7 @@ use Rattle.bts_command.specs.declared.ended.UnitKind.{UnitKind}
 use Rattle.bts_command.specs.declared.ended.UnitKind.TheVariants as unit
 use Rattle.bts_tree.specs.Activities.{by_cause}
 use Rattle.bts_tree.specs.Modes.{frame_opens}
-use Rattle.bts_tree.specs.Processes.{Process, edited}
+use Rattle.bts_tree.specs.Processes.{Process, activity_at, edited}
 use Rattle.bts_rows.specs.declared.held.Held.{Held}
 use Rattle.bts_rows.specs.declared.held.Held.TheVariants as held
 use Rattle.bts_rows.specs.Targets.{Here, in_activity, in_request}
@@ -41,6 +41,11 @@ open_paths u = filter_map (λ f. f.at) u.frames
 abbrev pub here : Held → Option ActivityPath → Here
 here h None = in_request h
 here h (Some p) = in_activity p
+
+-- the activity of a frame is there
+abbrev pub is_there_at : Option ActivityPath → Process → Bool
+is_there_at None s = true
+is_there_at (Some p) s = is_some (activity_at p s)
 
 -- ---- the beginning
 

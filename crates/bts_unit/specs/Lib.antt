@@ -5,3 +5,6 @@ pub mod Ends
 pub mod Calls
 pub mod Systems
 pub mod Playing
+pub mod OneFrame
+pub mod OnWork
+pub mod Replays

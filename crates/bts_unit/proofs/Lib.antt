@@ -1,0 +1,4 @@
+pub mod InFrames
+pub mod Shown
+pub mod Performed
+pub mod Replayed

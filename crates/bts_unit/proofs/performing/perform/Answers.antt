@@ -1,0 +1,53 @@
+use Rattle.std.proofs.Common.{sym, ap, ◌∙◌, subst}
+use Rattle.bts_command.specs.declared.command.Command.TheVariants as command
+use Rattle.bts_unit.specs.Calls.{called_on_top}
+use Rattle.bts_unit.specs.OnWork.{GoesOn, Steps, is_kept_there}
+use Rattle.bts_unit.specs.OnWork as on
+use Rattle.bts_unit.proofs.Performed.{abends, abends_go_on, ends_none, returns, returns_go_on, returns_kept, rolls, rolls_go_on, steps, steps_go_on, steps_kept}
+use Rattle.bts_unit.proofs.performing.perform.Goals as goal
+
+pub returns-in-Return-clause-ok : goal.returns-in-Return-clause-ok
+returns-in-Return-clause-ok c =
+    let w = c.args.work.now in
+    subst (λ x. Steps w c.return_from.new.work c.return_from.result (called_on_top x)) (sym c.in-Return.is)
+    (subst (λ y. Steps w y.1 y.0 (called_on_top (command.Return c.in-Return.end_activity))) (sym c.return_from.ensures) (returns w c.in-Return.end_activity c.requires.open))
+
+pub returns-in-Return-clause-goes_on : goal.returns-in-Return-clause-goes_on
+returns-in-Return-clause-goes_on c = subst (λ y. GoesOn c.args.work.now y.1) (sym c.return_from.ensures) (returns_go_on c.args.work.now c.in-Return.end_activity c.requires.fits)
+
+pub returns-in-Abend-clause-goes_on : goal.returns-in-Abend-clause-goes_on
+returns-in-Abend-clause-goes_on c = subst (GoesOn c.args.work.now) (sym c.abend.ensures) (abends_go_on c.args.work.now c.in-Abend.code c.requires.fits)
+
+pub returns-in-Rollback-clause-goes_on : goal.returns-in-Rollback-clause-goes_on
+returns-in-Rollback-clause-goes_on c = subst (λ y. GoesOn c.args.work.now y.1) (sym c.roll_back.ensures) (rolls_go_on c.args.work.now c.requires.fits)
+
+pub returns-in-Return-clause-kept : goal.returns-in-Return-clause-kept
+returns-in-Return-clause-kept c = ap (λ y. is_kept_there y.1.frame) c.return_from.ensures ∙ returns_kept c.args.work.now c.in-Return.end_activity c.requires.kept
+
+pub returns-in-Abend-clause-ok : goal.returns-in-Abend-clause-ok
+returns-in-Abend-clause-ok c =
+    let w = c.args.work.now in
+    subst (λ x. Steps w c.abend.new.work c.normal_reply.result (called_on_top x)) (sym c.in-Abend.is)
+    (subst (λ y. Steps w y c.normal_reply.result (called_on_top (command.Abend c.in-Abend.code))) (sym c.abend.ensures)
+    (subst (λ r. Steps w (on.abended c.in-Abend.code w) r (called_on_top (command.Abend c.in-Abend.code))) (sym c.normal_reply.ensures) (abends w c.in-Abend.code c.requires.open)))
+
+pub returns-in-Rollback-clause-ok : goal.returns-in-Rollback-clause-ok
+returns-in-Rollback-clause-ok c =
+    let w = c.args.work.now in
+    subst (λ x. Steps w c.roll_back.new.work c.roll_back.result (called_on_top x)) (sym c.in-Rollback.is)
+    (subst (λ y. Steps w y.1 y.0 (called_on_top command.Rollback)) (sym c.roll_back.ensures) (rolls w c.requires.open))
+
+pub step-requires-clause-goes_on : goal.step-requires-clause-goes_on
+step-requires-clause-goes_on c = ends_none c.args.command.now c.in_default.not-Return c.in_default.not-Abend c.in_default.not-Rollback
+
+pub returns-in_default : goal.returns-in_default
+returns-in_default c =
+    let w = c.args.work.now in
+    let x = c.args.command.now in
+    let goes_on = ends_none x c.in_default.not-Return c.in_default.not-Abend c.in_default.not-Rollback in
+    record {
+      ok = steps w x c.step.new.work c.step.result c.requires.open goes_on c.requires.one_frame c.step.ensures.row c.step.ensures.ok;
+      err = c.step.ensures.err;
+      kept = steps_kept w x c.step.new.work c.step.result c.requires.kept c.step.ensures.ok c.step.ensures.err;
+      goes_on = steps_go_on w x c.step.new.work c.step.result c.requires.fits c.step.ensures.ok c.step.ensures.err;
+    }

@@ -1,0 +1,24 @@
+use Rattle.std.proofs.Common.{◌++◌, [], ◌∷◌, is_none, sym, ap, ◌∙◌, subst}
+use Rattle.bts_command.specs.declared.command.Call.{Call}
+use Rattle.bts_unit.specs.Calls.{call}
+use Rattle.bts_unit.specs.Replays.{IsWorkOf, behind_calls}
+use Rattle.bts_unit.proofs.Replayed.{made, played}
+use Rattle.bts_unit.proofs.unit.Unit.call.Goals as goal
+
+pub invariant_of-self-2 : goal.invariant_of-self-2
+invariant_of-self-2 c =
+    let u = c.self.inside in
+    let x : Call = record { command = c.args.command; reply = c.in_ok-reply.reply } in
+    let goes_on = ap (λ v. is_none v.end) c.self.view_is ∙ c.requires.open in
+    subst (λ xs. IsWorkOf c.perform.new.work xs u.stopped (behind_calls u.kind c.perform.new.work xs u.stopped))
+    (sym (c.push_reserved.ensures.items ∙ ap (λ xs. xs ++ x ∷ []) c.in_ok-reserve.ensures.items))
+    (made u.kind u.work u.calls.items u.stopped c.self.invariant goes_on c.perform.new.work x c.in_ok-reply.ensures.goes_on c.in_ok-reply.ensures.ok c.in_ok-reply.ensures.kept)
+
+pub returns-clause-ok : goal.returns-clause-ok
+returns-clause-ok c =
+    let u = c.self.inside in
+    let x : Call = record { command = c.args.command; reply = c.in_ok-reply.reply } in
+    let goes_on = ap (λ v. is_none v.end) c.self.view_is ∙ c.requires.open in
+    ap (λ xs. behind_calls u.kind c.perform.new.work xs u.stopped) (c.push_reserved.ensures.items ∙ ap (λ xs. xs ++ x ∷ []) c.in_ok-reserve.ensures.items)
+    ∙ played u.kind u.work u.calls.items u.stopped c.self.invariant goes_on c.perform.new.work x c.in_ok-reply.ensures.goes_on
+    ∙ ap (λ v. (call v c.args.command).1) c.self.view_is
