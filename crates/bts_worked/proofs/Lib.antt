@@ -12,3 +12,4 @@ pub mod Lines
 pub mod Reports
 pub mod Blocks
 pub mod Units
+pub mod Steps
