@@ -1,0 +1,45 @@
+-- What kinds of units there are: those that do items, activations, and those that are committed.
+use Rattle.std.specs.Prelude.{ℕ, Bool, true, false, not, ◌&&◌, List, Option, Some, None}
+use Rattle.std.specs.List.{filter, filter_map}
+use Rattle.bts_command.specs.declared.ended.End.{End}
+use Rattle.bts_command.specs.declared.ended.End.TheVariants.{Commit, Rollback, Abend}
+use Rattle.bts_command.specs.declared.ended.Ended.{Ended}
+use Rattle.bts_command.specs.declared.ended.UnitKind.{UnitKind}
+use Rattle.bts_command.specs.declared.ended.UnitKind.TheVariants as unit
+
+-- the number of the session's item that a unit does
+abbrev pub item_of : UnitKind → Option ℕ
+item_of (unit.Request item key) = Some item
+item_of (unit.Clock item) = Some item
+item_of (unit.Settle item) = Some item
+item_of (unit.Browse item) = Some item
+item_of _ = None
+
+abbrev pub is_activation : UnitKind → Bool
+is_activation (unit.Activation key path) = true
+is_activation _ = false
+
+-- ---- committed units
+
+-- what a unit of this kind leaves is kept
+abbrev pub is_kept : UnitKind → Bool
+is_kept (unit.Clock item) = false
+is_kept (unit.Settle item) = false
+is_kept (unit.Browse item) = false
+is_kept _ = true
+
+abbrev pub is_rollback : End → Bool
+is_rollback Commit = false
+is_rollback Rollback = true
+is_rollback (Abend code) = false
+
+-- a unit is committed, and so is one that ended with an abend
+abbrev pub is_committed : Ended → Bool
+is_committed e = is_kept e.unit && not (is_rollback e.end)
+
+abbrev pub committed : List Ended → List Ended
+committed h = filter is_committed h
+
+-- the items that a history names
+abbrev pub items_of : List Ended → List ℕ
+items_of h = filter_map (λ e. item_of e.unit) h

@@ -1,0 +1,6 @@
+//! Which work is enabled where a history has come to, which histories of a session are legal, and which one is serial.
+//!
+//! So far there are definitions alone, in `specs/`: `Kinds` (which units do items, and which are committed), `Items` (the
+//! items of a session and whose turn it is), `Positions` (where a history has come to), `Enabled` (the work that may be
+//! taken there, in order), `Histories` (legal and clocked histories) and `Serial` (the serial one).
+#![tactic(auto)]
