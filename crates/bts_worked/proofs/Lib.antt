@@ -13,3 +13,7 @@ pub mod Reports
 pub mod Blocks
 pub mod Units
 pub mod Steps
+pub mod Runs
+pub mod EndingRuns
+pub mod EventRuns
+pub mod FamilyRuns
