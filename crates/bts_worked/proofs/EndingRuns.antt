@@ -1,6 +1,7 @@
 -- Whole sessions, from their text to their report: how requests and activations end.
-use Rattle.std.proofs.Common.{◌≡◌, [], ◌∷◌, codes, refl}
-use Rattle.bts_worked.proofs.Runs.{history, printed, report_from, session_from, text}
+use Rattle.std.proofs.Common.{◌≡◌, List, [], ◌∷◌, codes, refl}
+use Rattle.bts_names.specs.Names.{Bytes}
+use Rattle.bts_worked.proofs.Runs.{history, listed, list_from, printed, report_from, session_from, text}
 
 -- a first run, and the same process again
 first_run : report_from (
@@ -100,7 +101,8 @@ unfolding session_from history printed
 no_retrieval = refl
 
 -- ENDACTIVITY with a child that was not checked
-children_left : report_from (
+abbrev with_child : List Bytes
+with_child =
     codes "PROGRAM LEAF" ∷
     codes "RETRIEVE REATTACH EVENT" ∷
     codes "RETURN ENDACTIVITY" ∷
@@ -113,7 +115,9 @@ children_left : report_from (
     codes "REQUEST ORDERS P10" ∷
     codes "DEFINE PROCESS TRANSID(ORD1) PROGRAM(ROOT)" ∷
     codes "RUN ACQPROCESS ASYNCHRONOUS" ∷
-    codes "END" ∷ []) ≡ text (
+    codes "END" ∷ []
+
+children_left : report_from with_child ≡ text (
     codes "1 REQUEST ORDERS P10 1970-01-01T00:00:00 COMMIT" ∷
     codes "  DEFINE PROCESS NORMAL" ∷
     codes "  RUN ACQPROCESS NORMAL" ∷
@@ -124,3 +128,9 @@ children_left : report_from (
     codes "  RETURN ENDACTIVITY NORMAL ABEND CHLD" ∷ [])
 unfolding session_from history printed
 children_left = refl
+
+-- and the child is gone
+no_child : list_from with_child ≡ text (
+    codes "ORDERS P10 1 / DFHROOT COMPLETE ABEND NOTSUSPENDED 0 ORD1 ROOT" ∷ [])
+unfolding session_from history listed
+no_child = refl

@@ -1,9 +1,11 @@
 -- Whole sessions, from their text to their report: events and timers.
-use Rattle.std.proofs.Common.{◌≡◌, [], ◌∷◌, codes, refl}
+use Rattle.std.proofs.Common.{◌≡◌, List, [], ◌∷◌, ◌++◌, codes, refl}
+use Rattle.bts_names.specs.Names.{Bytes}
 use Rattle.bts_worked.proofs.Runs.{history, printed, report_from, session_from, text}
 
--- two sub-events before one retrieval
-two_before_one : report_from (
+-- a process that waits for one of two events
+abbrev any_event : List Bytes
+any_event =
     codes "PROGRAM ANY" ∷
     codes "RETRIEVE REATTACH EVENT" ∷
     codes "WHEN EVENT(EITHER) GOTO GOT" ∷
@@ -19,7 +21,10 @@ two_before_one : report_from (
     codes "REQUEST ORDERS P7" ∷
     codes "DEFINE PROCESS TRANSID(ORD1) PROGRAM(ANY)" ∷
     codes "RUN ACQPROCESS ASYNCHRONOUS" ∷
-    codes "END" ∷
+    codes "END" ∷ []
+
+-- both are sent before it retrieves
+both_sent : report_from (any_event ++
     codes "SETTLE" ∷
     codes "REQUEST ORDERS P7" ∷
     codes "ACQUIRE PROCESS" ∷
@@ -49,26 +54,10 @@ two_before_one : report_from (
     codes "  RETRIEVE SUBEVENT(EITHER) END Empty" ∷
     codes "  RETURN NORMAL DORMANT" ∷ [])
 unfolding session_from history printed
-two_before_one = refl
+both_sent = refl
 
--- an event that is sent twice
-sent_twice : report_from (
-    codes "PROGRAM ANY" ∷
-    codes "RETRIEVE REATTACH EVENT" ∷
-    codes "WHEN EVENT(EITHER) GOTO GOT" ∷
-    codes "DEFINE INPUT EVENT(I1)" ∷
-    codes "DEFINE INPUT EVENT(I2)" ∷
-    codes "DEFINE COMPOSITE EVENT(EITHER) OR SUBEVENT(I1) SUBEVENT(I2)" ∷
-    codes "RETURN" ∷
-    codes "LABEL GOT" ∷
-    codes "RETRIEVE SUBEVENT EVENT(EITHER)" ∷
-    codes "RETRIEVE SUBEVENT EVENT(EITHER)" ∷
-    codes "RETRIEVE SUBEVENT EVENT(EITHER)" ∷
-    codes "END" ∷
-    codes "REQUEST ORDERS P7" ∷
-    codes "DEFINE PROCESS TRANSID(ORD1) PROGRAM(ANY)" ∷
-    codes "RUN ACQPROCESS ASYNCHRONOUS" ∷
-    codes "END" ∷
+-- one is sent twice
+sent_twice : report_from (any_event ++
     codes "SETTLE" ∷
     codes "REQUEST ORDERS P7" ∷
     codes "ACQUIRE PROCESS" ∷

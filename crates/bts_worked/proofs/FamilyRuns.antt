@@ -1,9 +1,11 @@
 -- Whole sessions, from their text to their report: activities and their children.
-use Rattle.std.proofs.Common.{◌≡◌, [], ◌∷◌, codes, refl}
-use Rattle.bts_worked.proofs.Runs.{history, printed, report_from, session_from, text}
+use Rattle.std.proofs.Common.{◌≡◌, List, [], ◌∷◌, ◌++◌, codes, refl}
+use Rattle.bts_names.specs.Names.{Bytes}
+use Rattle.bts_worked.proofs.Runs.{history, listed, list_from, printed, report_from, session_from, text}
 
 -- an order with two children
-order : report_from (
+abbrev an_order : List Bytes
+an_order =
     codes "PROGRAM LEAF" ∷
     codes "RETRIEVE REATTACH EVENT" ∷
     codes "RETURN ENDACTIVITY" ∷
@@ -26,7 +28,9 @@ order : report_from (
     codes "REQUEST ORDERS P6" ∷
     codes "DEFINE PROCESS TRANSID(ORD1) PROGRAM(ORDER)" ∷
     codes "RUN ACQPROCESS ASYNCHRONOUS" ∷
-    codes "END" ∷ []) ≡ text (
+    codes "END" ∷ []
+
+order : report_from an_order ≡ text (
     codes "1 REQUEST ORDERS P6 1970-01-01T00:00:00 COMMIT" ∷
     codes "  DEFINE PROCESS NORMAL" ∷
     codes "  RUN ACQPROCESS NORMAL" ∷
@@ -55,6 +59,52 @@ order : report_from (
     codes "  RETURN NORMAL COMPLETE" ∷ [])
 unfolding session_from history printed
 order = refl
+
+-- its activities, listed
+order_listed : list_from an_order ≡ text (
+    codes "ORDERS P6 1 / DFHROOT COMPLETE NORMAL NOTSUSPENDED 0 ORD1 ORDER" ∷
+    codes "ORDERS P6 1 /1 BILL COMPLETE NORMAL NOTSUSPENDED 0 BIL1 LEAF" ∷
+    codes "ORDERS P6 1 /2 SHIP COMPLETE NORMAL NOTSUSPENDED 0 SHP1 LEAF" ∷ [])
+unfolding session_from history listed
+order_listed = refl
+
+-- and found by a BROWSE
+order_found : report_from (an_order ++
+    codes "SETTLE" ∷
+    codes "BROWSE MODE(COMPLETE) STATUS(NORMAL)" ∷ []) ≡ text (
+    codes "1 REQUEST ORDERS P6 1970-01-01T00:00:00 COMMIT" ∷
+    codes "  DEFINE PROCESS NORMAL" ∷
+    codes "  RUN ACQPROCESS NORMAL" ∷
+    codes "  RETURN NORMAL" ∷
+    codes "2 ACTIVATION ORDERS P6 / 1970-01-01T00:00:00 COMMIT" ∷
+    codes "  RETRIEVE REATTACH NORMAL DFHINITIAL SYSTEM" ∷
+    codes "  DEFINE ACTIVITY(BILL) NORMAL /1" ∷
+    codes "  DEFINE ACTIVITY(SHIP) NORMAL /2" ∷
+    codes "  DEFINE COMPOSITE(BOTH) NORMAL" ∷
+    codes "  RUN ACTIVITY(BILL) NORMAL" ∷
+    codes "  RUN ACTIVITY(SHIP) NORMAL" ∷
+    codes "  RETURN NORMAL DORMANT" ∷
+    codes "3 ACTIVATION ORDERS P6 /1 1970-01-01T00:00:00 COMMIT" ∷
+    codes "  RETRIEVE REATTACH NORMAL DFHINITIAL SYSTEM" ∷
+    codes "  RETURN ENDACTIVITY NORMAL COMPLETE" ∷
+    codes "4 NOTICE ORDERS P6 /1 1970-01-01T00:00:00 COMMIT" ∷
+    codes "5 ACTIVATION ORDERS P6 /2 1970-01-01T00:00:00 COMMIT" ∷
+    codes "  RETRIEVE REATTACH NORMAL DFHINITIAL SYSTEM" ∷
+    codes "  RETURN ENDACTIVITY NORMAL COMPLETE" ∷
+    codes "6 NOTICE ORDERS P6 /2 1970-01-01T00:00:00 COMMIT" ∷
+    codes "7 ACTIVATION ORDERS P6 / 1970-01-01T00:00:00 COMMIT" ∷
+    codes "  RETRIEVE REATTACH NORMAL BOTH COMPOSITE" ∷
+    codes "  CHECK ACTIVITY(BILL) NORMAL COMPLETE NORMAL NOTSUSPENDED -" ∷
+    codes "  CHECK ACTIVITY(SHIP) NORMAL COMPLETE NORMAL NOTSUSPENDED -" ∷
+    codes "  DELETE EVENT(BOTH) NORMAL" ∷
+    codes "  RETURN NORMAL COMPLETE" ∷
+    codes "8 SETTLE 1970-01-01T00:00:00 COMMIT" ∷
+    codes "9 BROWSE 1970-01-01T00:00:00 COMMIT" ∷
+    codes "  ORDERS P6 1 / DFHROOT COMPLETE NORMAL NOTSUSPENDED 0 ORD1 ORDER" ∷
+    codes "  ORDERS P6 1 /1 BILL COMPLETE NORMAL NOTSUSPENDED 0 BIL1 LEAF" ∷
+    codes "  ORDERS P6 1 /2 SHIP COMPLETE NORMAL NOTSUSPENDED 0 SHP1 LEAF" ∷ [])
+unfolding session_from history printed
+order_found = refl
 
 -- children that abend, one that was run and one that was linked
 children_abend : report_from (
@@ -198,7 +248,8 @@ unfolding session_from history printed
 eight_frames = refl
 
 -- a process that is suspended, and resumed
-suspended : report_from (
+abbrev a_waiter : List Bytes
+a_waiter =
     codes "PROGRAM WAITER" ∷
     codes "RETRIEVE REATTACH EVENT" ∷
     codes "WHEN EVENT(DFHINITIAL) GOTO FIRST" ∷
@@ -224,7 +275,9 @@ suspended : report_from (
     codes "REQUEST ORDERS P15" ∷
     codes "ACQUIRE PROCESS" ∷
     codes "RESUME ACQPROCESS" ∷
-    codes "END" ∷ []) ≡ text (
+    codes "END" ∷ []
+
+suspended : report_from a_waiter ≡ text (
     codes "1 REQUEST ORDERS P15 1970-01-01T00:00:00 COMMIT" ∷
     codes "  DEFINE PROCESS NORMAL" ∷
     codes "  RUN ACQPROCESS NORMAL" ∷
@@ -253,34 +306,8 @@ suspended : report_from (
 unfolding session_from history printed
 suspended = refl
 
--- the same process, purged and defined again
-purged : report_from (
-    codes "PROGRAM WAITER" ∷
-    codes "RETRIEVE REATTACH EVENT" ∷
-    codes "WHEN EVENT(DFHINITIAL) GOTO FIRST" ∷
-    codes "RETRIEVE REATTACH EVENT" ∷
-    codes "RETURN ENDACTIVITY" ∷
-    codes "LABEL FIRST" ∷
-    codes "DEFINE INPUT EVENT(I1)" ∷
-    codes "DEFINE INPUT EVENT(I2)" ∷
-    codes "RETURN" ∷
-    codes "END" ∷
-    codes "REQUEST ORDERS P15" ∷
-    codes "DEFINE PROCESS TRANSID(ORD1) PROGRAM(WAITER)" ∷
-    codes "RUN ACQPROCESS ASYNCHRONOUS" ∷
-    codes "END" ∷
-    codes "SETTLE" ∷
-    codes "REQUEST ORDERS P15" ∷
-    codes "ACQUIRE PROCESS" ∷
-    codes "SUSPEND ACQPROCESS" ∷
-    codes "RUN ACQPROCESS ASYNCHRONOUS INPUTEVENT(I1)" ∷
-    codes "RUN ACQPROCESS ASYNCHRONOUS INPUTEVENT(I2)" ∷
-    codes "END" ∷
-    codes "SETTLE" ∷
-    codes "REQUEST ORDERS P15" ∷
-    codes "ACQUIRE PROCESS" ∷
-    codes "RESUME ACQPROCESS" ∷
-    codes "END" ∷
+-- and then purged and defined again
+purged : report_from (a_waiter ++
     codes "SETTLE" ∷
     codes "REQUEST ORDERS P15" ∷
     codes "ACQUIRE PROCESS" ∷
@@ -324,3 +351,17 @@ purged : report_from (
     codes "  RETURN NORMAL" ∷ [])
 unfolding session_from history printed
 purged = refl
+
+-- which is listed as its second generation
+second_generation : list_from (a_waiter ++
+    codes "SETTLE" ∷
+    codes "REQUEST ORDERS P15" ∷
+    codes "ACQUIRE PROCESS" ∷
+    codes "PURGE ACQPROCESS" ∷
+    codes "END" ∷
+    codes "REQUEST ORDERS P15" ∷
+    codes "DEFINE PROCESS TRANSID(ORD1) PROGRAM(WAITER)" ∷
+    codes "END" ∷ []) ≡ text (
+    codes "ORDERS P15 2 / DFHROOT INITIAL INCOMPLETE NOTSUSPENDED 0 ORD1 WAITER" ∷ [])
+unfolding session_from history listed
+second_generation = refl

@@ -15,7 +15,7 @@ use Rattle.bts_command.specs.declared.ended.Ended.{Ended}
 use Rattle.bts_command.specs.declared.ended.UnitKind.{UnitKind}
 use Rattle.bts_command.specs.declared.ended.UnitKind.TheVariants as unit
 use Rattle.bts_event.specs.Pool.{settled}
-use Rattle.bts_tree.specs.Repositories.{Processes, process_at}
+use Rattle.bts_tree.specs.Repositories.{Processes, process_at, rows}
 use Rattle.bts_rows.specs.ActRows.{act_row}
 use Rattle.bts_rows.specs.FamilyRows.{family_row}
 use Rattle.bts_rows.specs.RequestRows.{request_row}
@@ -28,7 +28,7 @@ use Rattle.bts_forms.specs.Forms as forms
 use Rattle.bts_script.specs.Blocks.{Refusal, statements}
 use Rattle.bts_session.specs.Sessions.{nothing, outside, sections_of, section_in, sections_in, session_in}
 use Rattle.bts_session.specs.declared.session.Session.{Session}
-use Rattle.bts_report.specs.Reports.{call_line, row_line, unit_line, unit_text, report}
+use Rattle.bts_report.specs.Reports.{call_line, list_line, list_text, row_line, unit_line, unit_text, report}
 use Rattle.bts_unit.specs.Calls.{call, called_in, run}
 use Rattle.bts_unit.specs.Frames.{UnitOfWork}
 use Rattle.bts_unit.specs.Playing.{begun}
@@ -40,7 +40,7 @@ use Rattle.bts_interp.specs.Texts.{Texts}
 use Rattle.bts_region.specs.Enabled.{least, works}
 use Rattle.bts_region.specs.Histories.{number_behind, texts_of}
 use Rattle.bts_region.specs.Items.{clock_in, item_done, rows_in}
-use Rattle.bts_region.specs.Positions.{Position, behind, origin}
+use Rattle.bts_region.specs.Positions.{Position, behind, behind_all, origin}
 
 -- ---- a session from its text
 
@@ -116,3 +116,11 @@ printed h = report h
 -- the report of the session that lines say
 abbrev pub report_from : List Bytes → Bytes
 report_from lines = printed (history_of (session_from lines))
+
+-- what is listed behind the session
+unfoldable pub listed : List Ended → Bytes
+unfolding digits list_line
+listed h = list_text (rows (behind_all origin h).processes)
+
+abbrev pub list_from : List Bytes → Bytes
+list_from lines = listed (history_of (session_from lines))
