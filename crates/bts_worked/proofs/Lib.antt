@@ -17,3 +17,5 @@ pub mod Runs
 pub mod EndingRuns
 pub mod EventRuns
 pub mod FamilyRuns
+pub mod Limits
+pub mod Legal

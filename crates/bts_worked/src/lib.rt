@@ -9,4 +9,9 @@
 //! `Sessions` and `BadLines` compute what lines, blocks of scripts and sessions say, and why lines are refused.
 //! `Reports` has reports and lists, byte for byte. `Units` has whole units of work: how their frames end, what stands
 //! behind them, and the account of their entries.
+//!
+//! `Steps` computes the next command of a script. `Runs` computes the serial history of a session from its text, and what
+//! is printed of it: `EndingRuns`, `EventRuns` and `FamilyRuns` are sessions with their reports, byte for byte, and
+//! `Limits` is about what may be used. `Legal` has a history that is the serial one, one that is legal in another order,
+//! and one that isn't legal.
 #![tactic(auto)]
