@@ -1,6 +1,7 @@
--- What kinds of units there are: those that do items, activations, and those that are committed.
+-- What kinds of units there are: those that do items, activations, those that hold a process, and those that are committed.
 use Rattle.std.specs.Prelude.{ℕ, Bool, true, false, not, ◌&&◌, List, Option, Some, None}
 use Rattle.std.specs.List.{filter, filter_map}
+use Rattle.bts_names.specs.declared.key.Key.{Key}
 use Rattle.bts_command.specs.declared.ended.End.{End}
 use Rattle.bts_command.specs.declared.ended.End.TheVariants.{Commit, Rollback, Abend}
 use Rattle.bts_command.specs.declared.ended.Ended.{Ended}
@@ -18,6 +19,14 @@ item_of _ = None
 abbrev pub is_activation : UnitKind → Bool
 is_activation (unit.Activation key path) = true
 is_activation _ = false
+
+-- the key of the process that a unit holds; CLOCK, SETTLE and BROWSE hold none
+abbrev pub key_of : UnitKind → Option Key
+key_of (unit.Request item key) = Some key
+key_of (unit.Activation key path) = Some key
+key_of (unit.Notice key path) = Some key
+key_of (unit.Expiry key path timer) = Some key
+key_of _ = None
 
 -- ---- committed units
 

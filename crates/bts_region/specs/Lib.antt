@@ -4,3 +4,4 @@ pub mod Positions
 pub mod Enabled
 pub mod Histories
 pub mod Serial
+pub mod Regions

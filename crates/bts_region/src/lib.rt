@@ -2,5 +2,6 @@
 //!
 //! So far there are definitions alone, in `specs/`: `Kinds` (which units do items, and which are committed), `Items` (the
 //! items of a session and whose turn it is), `Positions` (where a history has come to), `Enabled` (the work that may be
-//! taken there, in order), `Histories` (legal and clocked histories) and `Serial` (the serial one).
+//! taken there, in order), `Histories` (legal and clocked histories), `Serial` (the serial one) and `Regions` (what is
+//! answered to whoever asks for work).
 #![tactic(auto)]

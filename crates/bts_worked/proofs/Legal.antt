@@ -43,7 +43,7 @@ each (suc n) P all (suc i) h = each n (λ j. P (suc j)) all.1 i (omega arith)
 
 -- ---- the serial history
 
-abbrev p19 : Key
+abbrev pub p19 : Key
 p19 = record { ptype = codes "ORDERS"; pname = codes "P19" }
 
 abbrev define : Command
@@ -52,22 +52,22 @@ define = command.DefineProcess (codes "ORD1") (codes "NONE")
 abbrev run : Command
 run = command.Run target.AcqProcess false None
 
-abbrev return : Command
+abbrev pub return : Command
 return = command.Return false
 
 infix 6 ◌gives◌
-abbrev ◌gives◌ : Command → Reply → Call
+abbrev pub ◌gives◌ : Command → Reply → Call
 c gives r = record { command = c; reply = r }
 
 -- a request
-abbrev lacking : Session
+abbrev pub lacking : Session
 lacking = record { programs = []; items = item.Request p19 (statement.Command define ∷ statement.Command run ∷ []) ∷ [] }
 
 -- and what comes of it, since the session lacks the program of its activity
-abbrev request : Ended
+abbrev pub request : Ended
 request = record { unit = unit.Request 1 p19; moment = 0; end = Commit; calls = (define gives ok) ∷ (run gives ok) ∷ (return gives ok) ∷ []; rows = []; seq = 1 }
 
-abbrev activation : Ended
+abbrev pub activation : Ended
 activation = record { unit = unit.Activation p19 []; moment = 0; end = Abend (codes "NOPG"); calls = (command.Abend (codes "NOPG") gives ok) ∷ []; rows = []; seq = 2 }
 
 serial : IsSerial lacking origin 1 (request ∷ activation ∷ [])
@@ -109,17 +109,17 @@ serial =
 
 -- ---- another order
 
-abbrev key_of : Name → Key
+abbrev pub key_of : Name → Key
 key_of name = record { ptype = codes "ORDERS"; pname = name }
 
 -- two requests of different keys, each without a command
-abbrev two : Session
+abbrev pub two : Session
 two = record { programs = []; items = item.Request (key_of (codes "P1")) [] ∷ item.Request (key_of (codes "P2")) [] ∷ [] }
 
-abbrev empty_request : ℕ → Key → ℕ → Ended
+abbrev pub empty_request : ℕ → Key → ℕ → Ended
 empty_request n key seq = record { unit = unit.Request n key; moment = 0; end = Commit; calls = (return gives ok) ∷ []; rows = []; seq = seq }
 
-abbrev second_first : List Ended
+abbrev pub second_first : List Ended
 second_first = empty_request 2 (key_of (codes "P2")) 1 ∷ empty_request 1 (key_of (codes "P1")) 2 ∷ []
 
 second_is_next : IsNext two origin (empty_request 2 (key_of (codes "P2")) 1)

@@ -19,3 +19,4 @@ pub mod EventRuns
 pub mod FamilyRuns
 pub mod Limits
 pub mod Legal
+pub mod Offers
