@@ -19,11 +19,11 @@ use Rattle.bts_interp.specs.Texts.{Texts}
 
 -- a unit with these open frames
 module _ (moment : ℕ) (base : Process) (held : Held) (now : Standing) (calls : List Call) (end : Option End) where
-  abbrev with_frames : List OpenFrame → UnitOfWork
+  abbrev pub with_frames : List OpenFrame → UnitOfWork
   with_frames frames = record { moment = moment; base = base; held = held; now = now; frames = frames; calls = calls; end = end }
 
   -- one that has ended stays as it is
-  ended_stays : (ks : List Command) → run (with_frames []) ks ≡ with_frames []
+  pub ended_stays : (ks : List Command) → run (with_frames []) ks ≡ with_frames []
   unfolding run
   ended_stays [] = refl
   ended_stays (k ∷ ks) = refl

@@ -1,11 +1,10 @@
 -- Calls that follow the texts, and one call more.
 use borrow.Author.Tests.{tests}
 use Rattle.std.proofs.Common.{rules, ◌≡◌, ℕ, zero, suc, ◌+◌, ◌<◌, ◌≤◌, Bool, true, false, cond, nat_lt, nat_le, List, [], ◌∷◌, ◌++◌, length, length-append, take, Option, None, Some, codes, refl, sym, ap, ◌∙◌, subst, lit≤, arith}
-use Rattle.std.specs.List.{EachIndex, slice_get, sum_by}
+use Rattle.std.specs.List.{EachIndex, slice_get}
 use Rattle.std.specs.Option.{option_map}
 use Rattle.std.proofs.lemmas.Option.{none-some}
 use Rattle.bts_command.specs.declared.command.Call.{Call}
-use Rattle.bts_command.specs.declared.command.Command.{Command}
 use Rattle.bts_command.specs.declared.ended.End.{End}
 use Rattle.bts_command.specs.declared.ended.End.TheVariants.{Abend}
 use Rattle.bts_unit.specs.Frames.{UnitOfWork}
