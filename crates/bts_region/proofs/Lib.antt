@@ -1,0 +1,2 @@
+mod OneUnit
+mod Fronts
