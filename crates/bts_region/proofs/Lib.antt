@@ -1,2 +1,3 @@
 mod OneUnit
 mod Fronts
+mod AllDone

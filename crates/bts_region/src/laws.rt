@@ -1,6 +1,9 @@
 // What holds of the histories of a session.
-ghost use Rattle.std.specs.Prelude.{◌≡◌, ◌++◌, ℕ, List};
+ghost use Rattle.std.specs.Prelude.{◌≡◌, ◌++◌, ℕ, List, [], IsTrue};
+ghost use Rattle.std.specs.List.{list_all};
 ghost use Rattle.bts_command.specs.declared.ended.Ended.{Ended};
+ghost use Rattle.bts_region.specs.Enabled.{works};
+ghost use Rattle.bts_region.specs.Items.{has_ended, numbered};
 ghost use Rattle.bts_region.specs.Positions.{Position};
 ghost use Rattle.bts_region.specs.Serial.{IsInOrder, IsSerial};
 ghost use Rattle.bts_session.specs.declared.session.Session.{Session};
@@ -11,4 +14,10 @@ pub fn the_serial_history_is_one()
         → IsSerial session at limit h → IsSerial session at limit k → h ≡ k }
     ensures front { (session : Session) (limit : ℕ) (at : Position) (h k : List Ended)
         → IsInOrder session at limit h → IsSerial session at limit k → (rest : List Ended) × (k ≡ h ++ rest) }
+{}
+
+/// Where no work is enabled, every item of the session has ended.
+pub fn without_work_every_item_has_ended()
+    ensures { (session : Session) (at : Position) → works session at ≡ []
+        → IsTrue (list_all (λ x. has_ended at.ended x.0) (numbered session)) }
 {}
