@@ -1,8 +1,7 @@
 -- Each history in order is a front of the serial one, and the serial history is one.
-use Rattle.std.proofs.Common.{rules, ◌≡◌, ◌≤◌, ℕ, ◌+◌, Bool, true, false, cond, nat_eq, List, [], ◌∷◌, ◌++◌, unwrap_or, refl, sym, ap, ◌∙◌, subst, arith, max}
+use Rattle.std.proofs.Common.{◌≡◌, ◌≤◌, ℕ, ◌+◌, Bool, true, false, nat_eq, List, [], ◌∷◌, ◌++◌, unwrap_or, refl, sym, ap, ◌∙◌, subst, arith, max}
 use Rattle.std.proofs.Math.Nat.{add-zero, zero-add}
 use Rattle.std.proofs.lemmas.Bool.{and_parts}
-use Rattle.std.proofs.lemmas.List.Sums.{sum_by-append}
 use Rattle.bts_command.specs.declared.ended.Ended.{Ended}
 use Rattle.bts_region.specs.Enabled.{least}
 use Rattle.bts_region.specs.Histories.{IsClocked, IsLegal}
@@ -10,22 +9,17 @@ use Rattle.bts_region.specs.Items.{clock_in, item_done}
 use Rattle.bts_region.specs.Kinds.{is_activation}
 use Rattle.bts_region.specs.Positions.{Position, behind, behind_all}
 use Rattle.bts_region.specs.Serial.{IsInOrder, IsLeast, IsSerial, activations_in, is_over}
+use Rattle.bts_region.proofs.Counts.{counted_first, equal_numbers, one_if}
 use Rattle.bts_region.proofs.OneUnit.{one_unit}
 use Rattle.bts_session.specs.declared.session.Session.{Session}
 
 -- ---- the limit
 
-abbrev one_if : Bool → ℕ
-one_if b = cond b 1 0
-
-counted_first : (x : Ended) (h : List Ended) → activations_in (x ∷ h) ≡ one_if (is_activation x.unit) + activations_in h
-counted_first x h = sum_by-append (λ e. one_if (is_activation e.unit)) (x ∷ []) h ∙ ap (λ n. n + activations_in h) (zero-add _)
-
-equal_from : (n m : ℕ) → nat_eq n m ≡ true → n ≡ m
-equal_from n m h = search rules
+first_activation : (x : Ended) (h : List Ended) → activations_in (x ∷ h) ≡ one_if (is_activation x.unit) + activations_in h
+first_activation x h = counted_first (λ e. is_activation e.unit) x h
 
 past_the_limit : (limit made others : ℕ) (is_one : Bool) → is_one ≡ true → nat_eq made limit ≡ true → made + (one_if is_one + others) ≤ limit → ⊥
-past_the_limit limit made others true a q l = let e : made ≡ limit = equal_from made limit q in omega (arith, e, l)
+past_the_limit limit made others true a q l = let e : made ≡ limit = equal_numbers made limit q in omega (arith, e, l)
 past_the_limit limit made others false a q l = cc
 
 module _ (session : Session) (limit : ℕ) where
@@ -40,7 +34,7 @@ module _ (session : Session) (limit : ℕ) where
   stops : (at : Position) (made : ℕ) (x : Ended) (h : List Ended) → Goes at made (x ∷ h) → is_over limit made (least session at) ≡ true → ⊥
   stops at made x h g over =
       let t : (is_activation x.unit ≡ true) × (nat_eq made limit ≡ true) = and_parts _ _ (subst (λ o. is_over limit made o ≡ true) g.in_turn.0 over) in
-      past_the_limit limit made (activations_in h) (is_activation x.unit) t.0 t.1 (subst (λ n. made + n ≤ limit) (counted_first x h) g.limited)
+      past_the_limit limit made (activations_in h) (is_activation x.unit) t.0 t.1 (subst (λ n. made + n ≤ limit) (first_activation x h) g.limited)
 
   one_first : (at : Position) (made : ℕ) (x y : Ended) (h k : List Ended) → Goes at made (x ∷ h) → Goes at made (y ∷ k) → x ≡ y
   one_first at made x y h k a b =
@@ -49,7 +43,7 @@ module _ (session : Session) (limit : ℕ) where
 
   others : (at : Position) (made : ℕ) (x : Ended) (h : List Ended) → Goes at made (x ∷ h) → Goes (behind at x) (made + one_if (is_activation x.unit)) h
   others at made x h g =
-      let n : activations_in (x ∷ h) ≡ one_if (is_activation x.unit) + activations_in h = counted_first x h in
+      let n : activations_in (x ∷ h) ≡ one_if (is_activation x.unit) + activations_in h = first_activation x h in
       record { legal = g.legal.1; clocked = g.clocked.1; in_turn = g.in_turn.1; limited = omega (arith, n, g.limited) }
 
   -- a history that can't go on
@@ -58,7 +52,7 @@ module _ (session : Session) (limit : ℕ) where
 
   over_behind : (at : Position) (made : ℕ) (x : Ended) (h : List Ended) → IsOver at made (x ∷ h) → IsOver (behind at x) (made + one_if (is_activation x.unit)) h
   over_behind at made x h o =
-      let n : activations_in (x ∷ h) ≡ one_if (is_activation x.unit) + activations_in h = counted_first x h in
+      let n : activations_in (x ∷ h) ≡ one_if (is_activation x.unit) + activations_in h = first_activation x h in
       let same : made + activations_in (x ∷ h) ≡ made + one_if (is_activation x.unit) + activations_in h = omega (arith, n) in
       subst (λ z. is_over limit z (least session (behind_all (behind at x) h)) ≡ true) same o
 

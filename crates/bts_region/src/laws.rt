@@ -1,10 +1,12 @@
 // What holds of the histories of a session.
-ghost use Rattle.std.specs.Prelude.{◌≡◌, ◌++◌, ℕ, List, [], IsTrue};
-ghost use Rattle.std.specs.List.{list_all};
+ghost use Rattle.std.specs.Prelude.{◌≡◌, ◌≤◌, ◌++◌, ℕ, List, [], IsTrue, nat_eq};
+ghost use Rattle.std.specs.List.{count_by, list_all};
 ghost use Rattle.bts_command.specs.declared.ended.Ended.{Ended};
 ghost use Rattle.bts_region.specs.Enabled.{works};
-ghost use Rattle.bts_region.specs.Items.{has_ended, numbered};
-ghost use Rattle.bts_region.specs.Positions.{Position};
+ghost use Rattle.bts_region.specs.Histories.{IsLegal};
+ghost use Rattle.bts_region.specs.Kinds.{items_of};
+ghost use Rattle.bts_region.specs.Items.{EachItemOnce, has_ended, numbered};
+ghost use Rattle.bts_region.specs.Positions.{Position, behind_all};
 ghost use Rattle.bts_region.specs.Serial.{IsInOrder, IsSerial};
 ghost use Rattle.bts_session.specs.declared.session.Session.{Session};
 
@@ -20,4 +22,13 @@ pub fn the_serial_history_is_one()
 pub fn without_work_every_item_has_ended()
     ensures { (session : Session) (at : Position) → works session at ≡ []
         → IsTrue (list_all (λ x. has_ended at.ended x.0) (numbered session)) }
+{}
+
+/// In a legal history no item is done twice. Where it began with no item ended, and no work is left behind it, each item
+/// of the session is done once.
+pub fn each_item_is_done_once()
+    ensures at_most { (session : Session) (at : Position) (h : List Ended) (n : ℕ)
+        → IsLegal session at h → count_by (nat_eq n) (items_of h) ≤ 1 }
+    ensures each { (session : Session) (at : Position) (h : List Ended) → at.ended ≡ []
+        → IsLegal session at h → works session (behind_all at h) ≡ [] → EachItemOnce session h }
 {}
