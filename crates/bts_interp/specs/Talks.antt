@@ -19,11 +19,15 @@ command_at calls i = option_map (λ c. c.command) (slice_get calls i)
 abbrev pub next_command : Texts → UnitOfWork → List Call → Option Command
 next_command texts u calls = option_map (λ r. r.command) (next_call texts u calls)
 
--- in a unit that began so: each call is the one that comes next behind those before it, the unit used no more than it
--- may before each, and the end is the one that is due
-pub record IsTalk (texts : Texts) (u : UnitOfWork) (calls : List Call) (e : End) : Type 0 where
+-- in a unit that began so: each call is the one that comes next behind those before it, and before each the unit used
+-- no more than it may
+pub record Follows (texts : Texts) (u : UnitOfWork) (calls : List Call) : Type 0 where
   pub commands : EachIndex calls (λ i. next_command texts u (take i calls) ≡ command_at calls i)
   pub statements : statements_to texts u calls ≤ statement_limit
   pub count : length calls ≤ call_limit
   pub bytes : EachIndex calls (λ i. data_bytes (take i calls) ≤ data_limit)
+
+-- and the end is the one that is due
+pub record IsTalk (texts : Texts) (u : UnitOfWork) (calls : List Call) (e : End) : Type 0 where
+  pub follows : Follows texts u calls
   pub end : due_end texts u calls ≡ Some e

@@ -80,7 +80,7 @@ serial =
             enabled = refl;
             item = refl;
             plays = record { enabled = refl; given = record { calls = refl; end = refl } };
-            text = record { commands = each 3 _ (refl, (refl, (refl, tt))); statements = lit≤ tt; count = lit≤ tt; bytes = each 3 _ (lit≤ tt, (lit≤ tt, (lit≤ tt, tt))); end = refl };
+            text = record { follows = record { commands = each 3 _ (refl, (refl, (refl, tt))); statements = lit≤ tt; count = lit≤ tt; bytes = each 3 _ (lit≤ tt, (lit≤ tt, (lit≤ tt, tt))) }; end = refl };
             number = refl;
             later = lit≤ tt;
             clock = lit≤ tt;
@@ -91,7 +91,7 @@ serial =
               enabled = refl;
               item = refl;
               plays = record { enabled = refl; given = record { calls = refl; end = refl } };
-              text = record { commands = each 1 _ (refl, tt); statements = lit≤ tt; count = lit≤ tt; bytes = each 1 _ (lit≤ tt, tt); end = refl };
+              text = record { follows = record { commands = each 1 _ (refl, tt); statements = lit≤ tt; count = lit≤ tt; bytes = each 1 _ (lit≤ tt, tt) }; end = refl };
               number = refl;
               later = lit≤ tt;
               clock = lit≤ tt;
@@ -129,7 +129,7 @@ second_is_next =
       enabled = refl;
       item = refl;
       plays = record { enabled = refl; given = record { calls = refl; end = refl } };
-      text = record { commands = each 1 _ (refl, tt); statements = lit≤ tt; count = lit≤ tt; bytes = each 1 _ (lit≤ tt, tt); end = refl };
+      text = record { follows = record { commands = each 1 _ (refl, tt); statements = lit≤ tt; count = lit≤ tt; bytes = each 1 _ (lit≤ tt, tt) }; end = refl };
       number = refl;
       later = lit≤ tt;
       clock = lit≤ tt;
@@ -146,7 +146,7 @@ legal = (
       enabled = refl;
       item = refl;
       plays = record { enabled = refl; given = record { calls = refl; end = refl } };
-      text = record { commands = each 1 _ (refl, tt); statements = lit≤ tt; count = lit≤ tt; bytes = each 1 _ (lit≤ tt, tt); end = refl };
+      text = record { follows = record { commands = each 1 _ (refl, tt); statements = lit≤ tt; count = lit≤ tt; bytes = each 1 _ (lit≤ tt, tt) }; end = refl };
       number = refl;
       later = lit≤ tt;
       clock = lit≤ tt;
@@ -169,4 +169,4 @@ cut_short = record request { calls = (return gives ok) ∷ [] }
 
 not_the_text : IsNext lacking origin cut_short → ⊥
 unfolding next place_behind row answer act_row family_row request_row settled called_in call calls.run moved retrieving works own_calls next_call statements_with due_end unit_behind
-not_the_text n = let e : Some define ≡ Some return = n.text.commands 0 (lit≤ tt) in cc
+not_the_text n = let e : Some define ≡ Some return = n.text.follows.commands 0 (lit≤ tt) in cc

@@ -1,0 +1,5 @@
+mod Counts
+mod OneUnit
+mod Fronts
+mod AllDone
+mod EachOnce

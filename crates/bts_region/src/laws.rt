@@ -1,0 +1,34 @@
+// What holds of the histories of a session.
+ghost use Rattle.std.specs.Prelude.{◌≡◌, ◌≤◌, ◌++◌, ℕ, List, [], IsTrue, nat_eq};
+ghost use Rattle.std.specs.List.{count_by, list_all};
+ghost use Rattle.bts_command.specs.declared.ended.Ended.{Ended};
+ghost use Rattle.bts_region.specs.Enabled.{works};
+ghost use Rattle.bts_region.specs.Histories.{IsLegal};
+ghost use Rattle.bts_region.specs.Kinds.{items_of};
+ghost use Rattle.bts_region.specs.Items.{EachItemOnce, has_ended, numbered};
+ghost use Rattle.bts_region.specs.Positions.{Position, behind_all};
+ghost use Rattle.bts_region.specs.Serial.{IsInOrder, IsSerial};
+ghost use Rattle.bts_session.specs.declared.session.Session.{Session};
+
+/// Behind a position a session has at most one serial history, and each history in order is a front of it.
+pub fn the_serial_history_is_one()
+    ensures one { (session : Session) (limit : ℕ) (at : Position) (h k : List Ended)
+        → IsSerial session at limit h → IsSerial session at limit k → h ≡ k }
+    ensures front { (session : Session) (limit : ℕ) (at : Position) (h k : List Ended)
+        → IsInOrder session at limit h → IsSerial session at limit k → (rest : List Ended) × (k ≡ h ++ rest) }
+{}
+
+/// Where no work is enabled, every item of the session has ended.
+pub fn without_work_every_item_has_ended()
+    ensures { (session : Session) (at : Position) → works session at ≡ []
+        → IsTrue (list_all (λ x. has_ended at.ended x.0) (numbered session)) }
+{}
+
+/// In a legal history no item is done twice. Where it began with no item ended, and no work is left behind it, each item
+/// of the session is done once.
+pub fn each_item_is_done_once()
+    ensures at_most { (session : Session) (at : Position) (h : List Ended) (n : ℕ)
+        → IsLegal session at h → count_by (nat_eq n) (items_of h) ≤ 1 }
+    ensures each { (session : Session) (at : Position) (h : List Ended) → at.ended ≡ []
+        → IsLegal session at h → works session (behind_all at h) ≡ [] → EachItemOnce session h }
+{}
