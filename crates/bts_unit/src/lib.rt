@@ -16,3 +16,6 @@ mod work;
 
 pub use change::Change;
 pub use unit::Unit;
+
+#[cfg(test)]
+mod tests;

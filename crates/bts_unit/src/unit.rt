@@ -79,8 +79,8 @@ impl Unit {
     }
 
     /// Does a command in the frame, and keeps it with its reply, which `last_reply` reads. The unit must not have
-    /// ended, and the activity of its frame must be there. In a sound process it is, and no event is fired while its timer is
-    /// UNEXPIRED. Where there is no memory the unit is as it was.
+    /// ended, and the activity of its frame must be there. In a sound process it is, and no event is fired while its
+    /// timer is UNEXPIRED. Where there is no memory the unit is as it was.
     pub fn call(&mut self, command: Command) -> Result<(), NoMemory>
         requires open { is_none self.old.end ≡ true }
         requires there { frames.is_there_at (top_path self.old.frames) self.old.now.process ≡ true }
