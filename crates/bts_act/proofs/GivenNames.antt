@@ -2,7 +2,7 @@
 use Rattle.std.proofs.Common.{◌≡◌, Bool, true, false, ◌||◌, List, [], ◌∷◌, Option, Some, None, unwrap_or, option_to_list, refl}
 use Rattle.std.specs.List.{list_any}
 use Rattle.bts_names.specs.Names.{Name, same, initial_name}
-use Rattle.bts_rows.specs.Given.{is_systems}
+use Rattle.bts_command.specs.Given.{is_systems}
 
 left_false : (a b : Bool) → (a || b) ≡ false → a ≡ false
 left_false true b h = cc

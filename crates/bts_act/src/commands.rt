@@ -6,7 +6,7 @@ ghost use Rattle.bts_tree.specs.Processes.{activity_at};
 ghost use Rattle.bts_tree.specs.Scopes.{holding};
 ghost use Rattle.bts_tree.specs.Soundness.{IsSoundInFrames, numbers_below};
 ghost use Rattle.bts_rows.specs.ActRows as rows;
-ghost use Rattle.bts_rows.specs.Given.{IsGiven};
+ghost use Rattle.bts_command.specs.Given.{IsGiven};
 ghost use Rattle.bts_rows.specs.Rows.{act_at};
 ghost use Rattle.bts_rows.specs.Targets.{in_activity, stored};
 ghost use Rattle.bts_act.specs.Does.{Does};

@@ -3,7 +3,7 @@ ghost use Rattle.std.specs.Prelude.{◌≡◌, IsTrue, IfSome, not, ◌&&◌, �
 ghost use Rattle.std.specs.List.{list_all};
 ghost use Rattle.bts_command.specs.Numbers.{command_number};
 ghost use Rattle.bts_tree.specs.Soundness.{numbers_below};
-ghost use Rattle.bts_rows.specs.Given.{IsGiven, is_systems};
+ghost use Rattle.bts_command.specs.Given.{IsGiven, is_systems};
 
 use crate::{act, none_is_early};
 use bts_command::{Command, Due, Names, Spot};

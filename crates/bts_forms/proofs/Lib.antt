@@ -1,5 +1,8 @@
+pub mod AllForms
 mod Lists
 mod Numbers
 mod Pairs
+pub mod Saying
 mod Steps
 pub mod Tables
+mod Today

@@ -1,6 +1,7 @@
 -- The forms of lines: one entry for each row of the tables.
-use Rattle.std.specs.Prelude.{Bool, true, false, List, [], ◌∷◌, ◌++◌, codes, Option, Some, None, Result, option_map}
+use Rattle.std.specs.Prelude.{Bool, true, false, not, ◌&&◌, List, [], ◌∷◌, ◌++◌, codes, Option, Some, None, is_some, Result, option_map}
 use Rattle.bts_names.specs.Names.{Bytes, Name}
+use Rattle.bts_forms.specs.Texts.{◌>>=◌}
 use Rattle.bts_command.specs.declared.command.Command.{Command}
 use Rattle.bts_command.specs.declared.command.Command.TheVariants as command
 use Rattle.bts_command.specs.declared.command.Target.{Target}
@@ -18,12 +19,13 @@ use Rattle.bts_forms.specs.declared.line.Setting.{Setting}
 use Rattle.bts_forms.specs.declared.line.Setting.TheVariants as setting
 use Rattle.bts_forms.specs.declared.line.Line.{Line}
 use Rattle.bts_forms.specs.declared.line.Line.TheVariants as line
-use Rattle.bts_forms.specs.Pieces.{Piece, says, bare, given, given_to_last, maybe, up_to, ended, result_of, ◌▸◌, ◌▹◌, ◌or◌}
+use Rattle.bts_forms.specs.Pieces.{Piece, says, bare, given, given_to_last, maybe, up_to, ended, result_of, behind_word, argument_in, ◌▸◌, ◌▹◌, ◌or◌}
 use Rattle.bts_forms.specs.Arguments.{name, event_name, process_name, process_type, program_name, transid, code, path, number, moment, resp, mode, status, literal, source}
 
--- a form: where it belongs, and what a line of it says, nothing where the line isn't of it; spaces at the line's ends are dropped
+-- a form: where it belongs, which lines of it are let through, and what a line says, nothing where it isn't of the form; spaces at the line's ends are dropped
 pub record Form : Type 0 where
   pub belongs : Setting
+  pub lets_through : Bytes → Bool
   pub reads : Bytes → Option (Result Line Word)
 
 -- a target, and the place of a container
@@ -195,7 +197,50 @@ abend = says command.Abend ▸ codes "ABEND" ▹ given (codes "ABCODE") code
 unfoldable pub rollback : Piece Command
 rollback = says command.Rollback ▸ codes "ROLLBACK"
 
--- ---- the table: each form with where it belongs
+-- ---- which lines of a form are let through: their words, options and kind of target decide, and never an argument
+
+-- all of them, and none yet
+abbrev pub today : Bytes → Bool
+today line = true
+
+abbrev pub later : Bytes → Bool
+later line = false
+
+-- whether a test holds of what stands behind the front of a line
+abbrev pub holds_of : (Bytes → Bool) → Option Bytes → Bool
+holds_of test None = false
+holds_of test (Some rest) = test rest
+
+-- no ACTIVITY(a) stands next
+unfoldable pub isnt_child : Bytes → Bool
+isnt_child rest = not (is_some (argument_in (codes "ACTIVITY") rest))
+
+unfoldable pub isnt_synchronous : Bytes → Bool
+isnt_synchronous rest = not (is_some (behind_word (codes "SYNCHRONOUS") rest))
+
+-- what stands behind a target, and behind a container's name
+unfoldable pub behind_target : Bytes → Option Bytes
+behind_target rest = option_map (λ x. x.1) (target rest)
+
+unfoldable pub behind_container : Bytes → Bytes → Option Bytes
+behind_container word line = behind_word word line >>= (λ rest. option_map (λ x. x.1) (argument_in (codes "CONTAINER") rest))
+
+-- RUN of what was acquired, but for SYNCHRONOUS
+unfoldable pub asynchronous : Bytes → Bool
+asynchronous rest = isnt_child rest && holds_of isnt_synchronous (behind_target rest)
+
+unfoldable pub run_through : Bytes → Bool
+run_through line = holds_of asynchronous (behind_word (codes "RUN") line)
+
+-- CHECK of what was acquired
+unfoldable pub check_through : Bytes → Bool
+check_through line = holds_of isnt_child (behind_word (codes "CHECK") line)
+
+-- containers but for those of a child
+unfoldable pub container_through : Bytes → Bytes → Bool
+container_through word line = holds_of isnt_child (behind_container word line)
+
+-- ---- the table: each form with where it belongs, and which lines of it are let through
 
 -- what a whole line says by a piece
 unfoldable pub reads_by : {A : Type 0} → (A → Line) → Piece A → Bytes → Option (Result Line Word)
@@ -207,113 +252,113 @@ command_of c = line.Statement (statement.Command c)
 abbrev pub statement_of : Statement → Line
 statement_of s = line.Statement s
 
-abbrev pub item : Piece Line → Form
-item p = record { belongs = setting.Outside; reads = reads_by (λ x. x) p }
+abbrev pub item : (Bytes → Bool) → Piece Line → Form
+item through p = record { belongs = setting.Outside; lets_through = through; reads = reads_by (λ x. x) p }
 
-abbrev pub end_of_block : Piece Line → Form
-end_of_block p = record { belongs = setting.Closing; reads = reads_by (λ x. x) p }
+abbrev pub end_of_block : (Bytes → Bool) → Piece Line → Form
+end_of_block through p = record { belongs = setting.Closing; lets_through = through; reads = reads_by (λ x. x) p }
 
-abbrev pub other : Piece Statement → Form
-other p = record { belongs = setting.InBlocks; reads = reads_by statement_of p }
+abbrev pub other : (Bytes → Bool) → Piece Statement → Form
+other through p = record { belongs = setting.InBlocks; lets_through = through; reads = reads_by statement_of p }
 
-abbrev pub call : Piece Command → Form
-call p = record { belongs = setting.InBlocks; reads = reads_by command_of p }
+abbrev pub call : (Bytes → Bool) → Piece Command → Form
+call through p = record { belongs = setting.InBlocks; lets_through = through; reads = reads_by command_of p }
 
-abbrev pub only_in_programs : Piece Command → Form
-only_in_programs p = record { belongs = setting.InPrograms; reads = reads_by command_of p }
+abbrev pub only_in_programs : (Bytes → Bool) → Piece Command → Form
+only_in_programs through p = record { belongs = setting.InPrograms; lets_through = through; reads = reads_by command_of p }
 
-abbrev pub only_in_requests : Piece Command → Form
-only_in_requests p = record { belongs = setting.InRequests; reads = reads_by command_of p }
+abbrev pub only_in_requests : (Bytes → Bool) → Piece Command → Form
+only_in_requests through p = record { belongs = setting.InRequests; lets_through = through; reads = reads_by command_of p }
 
 abbrev pub session_forms : List Form
 session_forms =
-    item program_line ∷
-    item request_line ∷
-    end_of_block end_line ∷
-    item clock_line ∷
-    item settle_line ∷
-    item browse_line ∷
+    item today program_line ∷
+    item today request_line ∷
+    end_of_block today end_line ∷
+    item later clock_line ∷
+    item today settle_line ∷
+    item later browse_line ∷
     []
 
 abbrev pub script_forms : List Form
 script_forms =
-    other label_line ∷
-    other goto_line ∷
-    other when_line ∷
+    other today label_line ∷
+    other today goto_line ∷
+    other today when_line ∷
     []
 
 abbrev pub process_forms : List Form
 process_forms =
-    call define_process ∷
-    call acquire_process ∷
-    call acquire_activity ∷
-    call purge_process ∷
+    call today define_process ∷
+    call today acquire_process ∷
+    call today acquire_activity ∷
+    call today purge_process ∷
     []
 
 abbrev pub activity_forms : List Form
 activity_forms =
-    call define_activity ∷
-    call delete_activity ∷
-    call run ∷
-    call link ∷
-    call check ∷
-    call cancel ∷
-    call reset ∷
-    call suspend ∷
-    call resume ∷
+    call later define_activity ∷
+    call later delete_activity ∷
+    call run_through run ∷
+    call later link ∷
+    call check_through check ∷
+    call later cancel ∷
+    call later reset ∷
+    call later suspend ∷
+    call later resume ∷
     []
 
 abbrev pub container_forms : List Form
 container_forms =
-    other put_container ∷
-    call get_container ∷
-    call delete_container ∷
+    other (container_through (codes "PUT")) put_container ∷
+    call (container_through (codes "GET")) get_container ∷
+    call (container_through (codes "DELETE")) delete_container ∷
     []
 
 abbrev pub early_event_forms : List Form
 early_event_forms =
-    call define_input ∷
-    call define_composite ∷
+    call today define_input ∷
+    call today define_composite ∷
     []
 
 abbrev pub late_event_forms : List Form
 late_event_forms =
-    call add_subevent ∷
-    call remove_subevent ∷
-    call delete_event ∷
-    call test_event ∷
-    call retrieve_reattach ∷
-    call retrieve_subevent ∷
+    call today add_subevent ∷
+    call today remove_subevent ∷
+    call today delete_event ∷
+    call today test_event ∷
+    call today retrieve_reattach ∷
+    call today retrieve_subevent ∷
     []
 
 abbrev pub timer_forms : List Form
 timer_forms =
-    call define_timer ∷
-    call force_timer ∷
-    call check_timer ∷
-    call delete_timer ∷
+    call later define_timer ∷
+    call later force_timer ∷
+    call later check_timer ∷
+    call later delete_timer ∷
     []
 
 abbrev pub ending_forms : List Form
 ending_forms =
-    call plain_return ∷
-    only_in_programs return_ending ∷
-    call abend ∷
-    only_in_requests rollback ∷
+    call today plain_return ∷
+    only_in_programs today return_ending ∷
+    call today abend ∷
+    only_in_requests today rollback ∷
     []
 
 -- all forms
 abbrev pub forms : List Form
 forms = session_forms ++ script_forms ++ process_forms ++ activity_forms ++ container_forms ++ early_event_forms ++ late_event_forms ++ timer_forms ++ ending_forms
 
--- the form that a line has, and what it says
+-- where the form of a line belongs, whether the line is let through, and what it says
 abbrev pub Saying : Type 0
-Saying = Setting × Result Line Word
+Saying = Setting × Bool × Result Line Word
 
-abbrev pub or_next : Setting → Option Saying → Option (Result Line Word) → Option Saying
-or_next at others None = others
-or_next at others (Some x) = Some (at, x)
+abbrev pub or_next : Setting → Bool → Option Saying → Option (Result Line Word) → Option Saying
+or_next at passes others None = others
+or_next at passes others (Some x) = Some (at, passes, x)
 
 abbrev pub form_of : List Form → Bytes → Option Saying
 form_of [] line = None
-form_of (f ∷ fs) line = or_next f.belongs (form_of fs line) (f.reads line)
+form_of (f ∷ fs) line = or_next f.belongs (f.lets_through line) (form_of fs line) (f.reads line)

@@ -2,3 +2,4 @@ pub mod Arguments
 pub mod Forms
 pub mod Pieces
 pub mod Texts
+pub mod Today

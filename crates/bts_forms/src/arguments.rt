@@ -144,7 +144,7 @@ fn value_within(most: u32, digits: &[u8]) -> Option<u32>
 
 /// A decimal number, where it is at most so much.
 #[tactic(auto, using(crate::proofs::Numbers::digits_of_decimal), unfolding(crate::specs::Texts::number_within, crate::specs::Texts::number_in))]
-fn number_within(most: u32, bytes: &[u8]) -> Option<u32>
+pub fn number_within(most: u32, bytes: &[u8]) -> Option<u32>
     ensures value { result ≡ number_within most bytes.now }
     ensures bound { IfSome result (λ n. n ≤ most) }
 {

@@ -11,14 +11,15 @@ use crate::event_lines::*;
 use crate::process_lines::*;
 use crate::script_lines::*;
 use crate::session_lines::*;
+use crate::through::{check_through, container_through, run_through};
 use crate::timer_lines::*;
 use crate::{Line, Setting, Statement, Word};
 use bts_command::Command;
 use bts_names::NoMemory;
 use std::alloc::Global;
 
-/// Where a line belongs, and what it says.
-pub type Said = (Setting, Result<Line, Word>);
+/// Where a line belongs, whether it is let through, and what it says.
+pub type Said = (Setting, bool, Result<Line, Word>);
 
 fn line_of(said: Result<Command, Word>) -> Result<Line, Word>
     ensures { result ≡ result_of command_of said }
@@ -38,10 +39,16 @@ fn statement_line(said: Result<Statement, Word>) -> Result<Line, Word>
     }
 }
 
-fn call(said: Result<Command, Word>) -> Said
-    ensures { result ≡ (InBlocks, result_of command_of said) }
+fn call(is_through: bool, said: Result<Command, Word>) -> Said
+    ensures { result ≡ (InBlocks, is_through, result_of command_of said) }
 {
-    (Setting::InBlocks, line_of(said))
+    (Setting::InBlocks, is_through, line_of(said))
+}
+
+fn other(is_through: bool, said: Result<Statement, Word>) -> Said
+    ensures { result ≡ (InBlocks, is_through, result_of statement_of said) }
+{
+    (Setting::InBlocks, is_through, statement_line(said))
 }
 
 #[tactic(auto, unfolding(crate::specs::Forms::reads_by))]
@@ -49,16 +56,16 @@ fn process_form(line: &[u8]) -> Option<Said>
     ensures { result ≡ form_of process_forms line.now }
 {
     if let Some(said) = define_process(line) {
-        return Some(call(said));
+        return Some(call(true, said));
     }
     if let Some(said) = acquire_process(line) {
-        return Some(call(said));
+        return Some(call(true, said));
     }
     if let Some(said) = acquire_activity(line) {
-        return Some(call(said));
+        return Some(call(true, said));
     }
     if let Some(said) = purge_process(line) {
-        return Some(call(said));
+        return Some(call(true, said));
     }
     None
 }
@@ -68,31 +75,31 @@ fn activity_form(line: &[u8]) -> Option<Said>
     ensures { result ≡ form_of activity_forms line.now }
 {
     if let Some(said) = define_activity(line) {
-        return Some(call(said));
+        return Some(call(false, said));
     }
     if let Some(said) = delete_activity(line) {
-        return Some(call(said));
+        return Some(call(false, said));
     }
     if let Some(said) = run(line) {
-        return Some(call(said));
+        return Some(call(run_through(line), said));
     }
     if let Some(said) = link(line) {
-        return Some(call(said));
+        return Some(call(false, said));
     }
     if let Some(said) = check(line) {
-        return Some(call(said));
+        return Some(call(check_through(line), said));
     }
     if let Some(said) = cancel(line) {
-        return Some(call(said));
+        return Some(call(false, said));
     }
     if let Some(said) = reset(line) {
-        return Some(call(said));
+        return Some(call(false, said));
     }
     if let Some(said) = suspend(line) {
-        return Some(call(said));
+        return Some(call(false, said));
     }
     if let Some(said) = resume(line) {
-        return Some(call(said));
+        return Some(call(false, said));
     }
     None
 }
@@ -102,16 +109,16 @@ fn timer_form(line: &[u8]) -> Option<Said>
     ensures { result ≡ form_of timer_forms line.now }
 {
     if let Some(said) = define_timer(line) {
-        return Some(call(said));
+        return Some(call(false, said));
     }
     if let Some(said) = force_timer(line) {
-        return Some(call(said));
+        return Some(call(false, said));
     }
     if let Some(said) = check_timer(line) {
-        return Some(call(said));
+        return Some(call(false, said));
     }
     if let Some(said) = delete_timer(line) {
-        return Some(call(said));
+        return Some(call(false, said));
     }
     None
 }
@@ -121,16 +128,16 @@ fn ending_form(line: &[u8]) -> Option<Said>
     ensures { result ≡ form_of ending_forms line.now }
 {
     if let Some(said) = plain_return(line) {
-        return Some(call(said));
+        return Some(call(true, said));
     }
     if let Some(said) = return_ending(line) {
-        return Some((Setting::InPrograms, line_of(said)));
+        return Some((Setting::InPrograms, true, line_of(said)));
     }
     if let Some(said) = abend(line) {
-        return Some(call(said));
+        return Some(call(true, said));
     }
     if let Some(said) = rollback(line) {
-        return Some((Setting::InRequests, line_of(said)));
+        return Some((Setting::InRequests, true, line_of(said)));
     }
     None
 }
@@ -140,13 +147,13 @@ fn container_form(alloc: Global, line: &[u8]) -> Result<Option<Said>, NoMemory>
     ensures { IfOk result (λ r. r ≡ form_of container_forms line.now) }
 {
     if let Some(said) = put_container(alloc, line)? {
-        return Ok(Some((Setting::InBlocks, statement_line(said))));
+        return Ok(Some(other(container_through(b"PUT", line), said)));
     }
     if let Some(said) = get_container(line) {
-        return Ok(Some(call(said)));
+        return Ok(Some(call(container_through(b"GET", line), said)));
     }
     if let Some(said) = delete_container(line) {
-        return Ok(Some(call(said)));
+        return Ok(Some(call(container_through(b"DELETE", line), said)));
     }
     Ok(None)
 }
@@ -156,13 +163,13 @@ fn script_form(alloc: Global, line: &[u8]) -> Result<Option<Said>, NoMemory>
     ensures { IfOk result (λ r. r ≡ form_of script_forms line.now) }
 {
     if let Some(said) = label_line(line) {
-        return Ok(Some((Setting::InBlocks, statement_line(said))));
+        return Ok(Some(other(true, said)));
     }
     if let Some(said) = goto_line(line) {
-        return Ok(Some((Setting::InBlocks, statement_line(said))));
+        return Ok(Some(other(true, said)));
     }
     if let Some(said) = when_line(alloc, line)? {
-        return Ok(Some((Setting::InBlocks, statement_line(said))));
+        return Ok(Some(other(true, said)));
     }
     Ok(None)
 }
@@ -172,22 +179,22 @@ fn late_event_form(line: &[u8]) -> Option<Said>
     ensures { result ≡ form_of late_event_forms line.now }
 {
     if let Some(said) = add_subevent(line) {
-        return Some(call(said));
+        return Some(call(true, said));
     }
     if let Some(said) = remove_subevent(line) {
-        return Some(call(said));
+        return Some(call(true, said));
     }
     if let Some(said) = delete_event(line) {
-        return Some(call(said));
+        return Some(call(true, said));
     }
     if let Some(said) = test_event(line) {
-        return Some(call(said));
+        return Some(call(true, said));
     }
     if let Some(said) = retrieve_reattach(line) {
-        return Some(call(said));
+        return Some(call(true, said));
     }
     if let Some(said) = retrieve_subevent(line) {
-        return Some(call(said));
+        return Some(call(true, said));
     }
     None
 }
@@ -197,29 +204,29 @@ fn early_event_form(alloc: Global, line: &[u8]) -> Result<Option<Said>, NoMemory
     ensures { IfOk result (λ r. r ≡ form_of early_event_forms line.now) }
 {
     if let Some(said) = define_input(line) {
-        return Ok(Some(call(said)));
+        return Ok(Some(call(true, said)));
     }
     if let Some(said) = define_composite(alloc, line)? {
-        return Ok(Some(call(said)));
+        return Ok(Some(call(true, said)));
     }
     Ok(None)
 }
 
-fn item(said: Result<Line, Word>) -> Said
-    ensures { result ≡ (Outside, result_of (λ x. x) said) }
+fn item(is_through: bool, said: Result<Line, Word>) -> Said
+    ensures { result ≡ (Outside, is_through, result_of (λ x. x) said) }
 {
     match said {
-        Ok(line) => (Setting::Outside, Ok(line)),
-        Err(why) => (Setting::Outside, Err(why)),
+        Ok(line) => (Setting::Outside, is_through, Ok(line)),
+        Err(why) => (Setting::Outside, is_through, Err(why)),
     }
 }
 
-fn end_of_block(said: Result<Line, Word>) -> Said
-    ensures { result ≡ (Closing, result_of (λ x. x) said) }
+fn end_of_block(is_through: bool, said: Result<Line, Word>) -> Said
+    ensures { result ≡ (Closing, is_through, result_of (λ x. x) said) }
 {
     match said {
-        Ok(line) => (Setting::Closing, Ok(line)),
-        Err(why) => (Setting::Closing, Err(why)),
+        Ok(line) => (Setting::Closing, is_through, Ok(line)),
+        Err(why) => (Setting::Closing, is_through, Err(why)),
     }
 }
 
@@ -228,22 +235,22 @@ fn session_form(line: &[u8]) -> Option<Said>
     ensures { result ≡ form_of session_forms line.now }
 {
     if let Some(said) = program_line(line) {
-        return Some(item(said));
+        return Some(item(true, said));
     }
     if let Some(said) = request_line(line) {
-        return Some(item(said));
+        return Some(item(true, said));
     }
     if let Some(said) = end_line(line) {
-        return Some(end_of_block(said));
+        return Some(end_of_block(true, said));
     }
     if let Some(said) = clock_line(line) {
-        return Some(item(said));
+        return Some(item(false, said));
     }
     if let Some(said) = settle_line(line) {
-        return Some(item(said));
+        return Some(item(true, said));
     }
     if let Some(said) = browse_line(line) {
-        return Some(item(said));
+        return Some(item(false, said));
     }
     None
 }

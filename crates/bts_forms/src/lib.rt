@@ -14,12 +14,12 @@ mod process_lines;
 mod script_lines;
 mod session_lines;
 mod statement;
+mod through;
 mod timer_lines;
 
-pub use ending_lines::plain_return;
+pub use arguments::number_within;
 pub use forms::{Said, form_of};
 pub use line::{Line, Place, ScriptError, Setting, Word};
-pub use pieces::{argument_in, argument_to_last, behind_word, cut_at, without_spaces};
-pub use process_lines::define_process;
-pub use session_lines::{end_line, request_line};
+pub use pieces::{cut_at, without_spaces};
+pub use session_lines::end_line;
 pub use statement::{Cond, Given, Script, Statement};

@@ -2,3 +2,15 @@ pub mod Behind
 pub mod Following
 pub mod Opening
 pub mod OneTalk
+pub mod OfToday
+pub mod Followed
+mod Latest
+mod Places
+mod Ending
+mod Alone
+pub mod Executable
+mod Turning
+mod Calling
+mod Numbered
+mod Beginning
+mod Finished

@@ -31,7 +31,7 @@ none_due used made bytes count room =
     rw (much, over, many) refl
 
 module _ (texts : Texts) (u : UnitOfWork) (fit : IsFit u) where
-  open_in : (p : List Call) (now : UnitOfWork) (r : Reached) (fs : List OpenFrame) → Fits fs now.end → next_in texts u p now fs ≡ Some r → now.end ≡ None
+  open_in : (p : List Call) (now : UnitOfWork) (r : Reached) (fs : List OpenFrame) → Fits fs now.end → next_in texts u p fs ≡ Some r → now.end ≡ None
   open_in p now r [] f n = absurd (none-some r n)
   open_in p now r (g ∷ gs) f n = f
 
@@ -52,7 +52,7 @@ module _ (texts : Texts) (u : UnitOfWork) (fit : IsFit u) where
         statements_left = omega (arith, used, count, f.statements);
       }
 
-  not_due_at : (p : List Call) (r : Reached) → next_call texts u p ≡ Some r → HasRoom (statements_to texts u p) (length p) (data_bytes p) r.count → due_end texts u p ≡ None
+  pub not_due_at : (p : List Call) (r : Reached) → next_call texts u p ≡ Some r → HasRoom (statements_to texts u p) (length p) (data_bytes p) r.count → due_end texts u p ≡ None
   unfolding due_end
   not_due_at p r n room =
       ap (λ e. end_by e (end_of_open texts u p)) (is_open p r n)

@@ -29,22 +29,23 @@ abbrev pub Fits : List OpenFrame → Option End → Type 0
 Fits [] e = Unit {0}
 Fits (f ∷ fs) e = e ≡ None
 
-none_fits : (fs : List OpenFrame) (e : Option End) → e ≡ None → Fits fs e
+pub none_fits : (fs : List OpenFrame) (e : Option End) → e ≡ None → Fits fs e
 none_fits [] e h = tt
 none_fits (f ∷ fs) e h = h
 
--- a command leaves the list of calls, and a unit that is open or has ended
+-- a command leaves the process at the start, the list of calls, and a unit that is open or has ended
 pub record Stays (u x : UnitOfWork) : Type 0 where
+  pub base : x.base ≡ u.base
   pub calls : x.calls ≡ u.calls
   pub fits : Fits x.frames x.end
 
 module _ (u : UnitOfWork) (is_open : u.end ≡ None) where
   itself : Stays u u
-  itself = record { calls = refl; fits = none_fits u.frames u.end is_open }
+  itself = record { base = refl; calls = refl; fits = none_fits u.frames u.end is_open }
 
   closes : (e : End) (below : List OpenFrame) (now : Standing) → Stays u (closed e below now u)
-  closes e [] now = record { calls = refl; fits = tt }
-  closes e (f ∷ fs) now = record { calls = refl; fits = refl }
+  closes e [] now = record { base = refl; calls = refl; fits = tt }
+  closes e (f ∷ fs) now = record { base = refl; calls = refl; fits = refl }
 
   leaves : (p : ActivityPath) (how : Leaving) (frame : OpenFrame) (below : List OpenFrame) → Stays u (left p how frame below u)
   leaves p leaving.Dormant frame below = closes Commit below _
@@ -68,7 +69,7 @@ module _ (u : UnitOfWork) (is_open : u.end ≡ None) where
 module _ (u : UnitOfWork) (is_open : u.end ≡ None) where
   opens_at : (n : Named) (keeps : Bool) → Stays u (with_frame_at n keeps u)
   opens_at (none resp why) keeps = itself u is_open
-  opens_at (path p) keeps = record { calls = refl; fits = is_open }
+  opens_at (path p) keeps = record { base = refl; calls = refl; fits = is_open }
 
   opens : (h : Here) (t : Option (Target × Bool)) (ran : Bool) → Stays u (opened_by h t ran u)
   opens h None ran = itself u is_open
@@ -80,7 +81,7 @@ module _ (u : UnitOfWork) (is_open : u.end ≡ None) where
   answers h c frame below (refused r why) = itself u is_open
   answers h c frame below (done v x) =
       let s : Stays (stepped c frame below u x) (answered h c frame below u (done v x)).1 = opens (stepped c frame below u x) is_open h (opens_on c) (says_ran v) in
-      record { calls = s.calls; fits = s.fits }
+      record { base = s.base; calls = s.calls; fits = s.fits }
 
   done_stays : (frame : OpenFrame) (below : List OpenFrame) (c : Command) → Stays u (done_in frame below u c).1
   done_stays frame below c = answers (here u.held frame.at) c frame below (answer (here u.held frame.at) u.held (length (frame ∷ below)) u.moment u.now.process c)
@@ -138,6 +139,23 @@ pub fit_behind_all : (u : UnitOfWork) (ks : List Command) → IsFit u → IsFit 
 unfolding run
 fit_behind_all u [] fit = fit
 fit_behind_all u (k ∷ ks) fit = subst IsFit (sym (first_call u k ks)) (fit_behind_all (call u k).1 ks (fit_behind u k fit))
+
+-- ---- the process at the start
+
+-- a unit with these open frames
+module _ (moment : ℕ) (base : Process) (held : Held) (now : Standing) (calls : List Call) (end : Option End) where
+  base_with : (frames : List OpenFrame) (k : Command) → Fits frames end → (call (unit moment base held now calls end frames) k).1.base ≡ base
+  unfolding call
+  base_with [] k fit = refl
+  base_with (f ∷ fs) k fit = (stays (unit moment base held now calls end (f ∷ fs)) fit f fs k).base
+
+pub base_behind : (u : UnitOfWork) (ks : List Command) → IsFit u → (run u ks).base ≡ u.base
+unfolding run
+base_behind u [] fit = refl
+base_behind u (k ∷ ks) fit =
+    ap (λ v. v.base) (first_call u k ks)
+    ∙ base_behind (call u k).1 ks (fit_behind u k fit)
+    ∙ base_with u.moment u.base u.held u.now u.calls u.end u.frames k fit
 
 -- ---- the calls that a unit made
 

@@ -8,6 +8,7 @@ use Rattle.bts_command.specs.declared.ended.UnitKind.TheVariants as unit
 use Rattle.bts_tree.specs.Processes.{Process}
 use Rattle.bts_unit.specs.Frames.{UnitOfWork}
 use Rattle.bts_unit.specs.Playing.{begun, budgeted}
+use Rattle.bts_interp.specs.Budgets.{statements_of}
 use Rattle.bts_interp.specs.NextCalls.{unit_behind}
 use Rattle.bts_interp.specs.Talks.{IsTalk}
 use Rattle.bts_interp.specs.Texts.{Texts}
@@ -50,3 +51,13 @@ pub record IsDone (d : Done) : Type 0 where
   pub calls : (done_unit d).calls ≡ d.calls
   pub after : (done_unit d).now.process ≡ d.after
   pub end : (done_unit d).end ≡ Some d.end
+
+-- ---- the statements that were executed
+
+abbrev pub executed_by : UnitKind → Done → ℕ
+executed_by (unit.Request item key) d = statements_of d.job.texts (unit_of d.job) d.calls
+executed_by (unit.Activation key path) d = statements_of d.job.texts (unit_of d.job) d.calls
+executed_by _ d = 0
+
+abbrev pub executed : Done → ℕ
+executed d = executed_by d.job.unit d

@@ -1,7 +1,15 @@
 pub mod Facts
+pub mod Commands
 pub mod Steps
+pub mod Reaching
 pub mod Texts
+pub mod Items
 pub mod NextCalls
 pub mod Budgets
 pub mod Talks
 pub mod Jobs
+pub mod Names
+pub mod Errands
+pub mod Ready
+pub mod Running
+pub mod Stations

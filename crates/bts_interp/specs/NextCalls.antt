@@ -27,10 +27,10 @@ own_calls opened u (c ∷ cs) = with_own (is_on_top opened u.frames) c (own_call
 
 -- ---- the next call
 
--- what the top frame reaches next, where the unit began so, made these calls and is now behind them
-abbrev pub next_in : Texts → UnitOfWork → List Call → UnitOfWork → List OpenFrame → Option Reached
-next_in texts u calls now [] = None
-next_in texts u calls now (f ∷ fs) = next_of (frame_script texts now.now.process f.at) (own_calls f.opened u calls)
+-- what the top one of these frames reaches next, where the unit began so and made these calls
+abbrev pub next_in : Texts → UnitOfWork → List Call → List OpenFrame → Option Reached
+next_in texts u calls [] = None
+next_in texts u calls (f ∷ fs) = next_of (frame_script texts f) (own_calls f.opened u calls)
 
 unfoldable pub next_call : Texts → UnitOfWork → List Call → Option Reached
-next_call texts u calls = next_in texts u calls (unit_behind u calls) (unit_behind u calls).frames
+next_call texts u calls = next_in texts u calls (unit_behind u calls).frames

@@ -4,7 +4,8 @@ use Rattle.std.proofs.Common.{true≢false, rules, ◌≡◌, ◌<◌, ◌≤◌
 use Rattle.std.specs.List.{filter, list_all, slice_get}
 use Rattle.bts_command.specs.declared.ended.UnitKind.TheVariants as unit
 use Rattle.bts_region.specs.Enabled.{is_item_enabled, is_settled, items_enabled, works}
-use Rattle.bts_region.specs.Items.{Numbered, earlier, has_ended, has_turn, is_of_another, is_settle, numbered, waited_for}
+use Rattle.bts_region.specs.Items.{earlier, has_ended, has_turn, is_of_another, is_settle, waited_for}
+use Rattle.bts_interp.specs.Items.{Numbered, numbered}
 use Rattle.bts_region.specs.Positions.{Position}
 use Rattle.bts_session.specs.declared.session.Item.{Item}
 use Rattle.bts_session.specs.declared.session.Item.TheVariants as item
@@ -67,6 +68,21 @@ module _ {X : Type 0} where
   all_where t [] h = refl
   all_where t (y ∷ ys) h = and_both (t y) (list_all t ys) (h 0 y refl) (all_where t ys (λ i x g. h (suc i) x g))
 
+-- ---- turns
+
+module _ (session : Session) (ended : List ℕ) where
+  abbrev pub HasEndedBelow : ℕ → Type 0
+  HasEndedBelow n = (i : ℕ) (x : Numbered) → slice_get (numbered session) i ≡ Some x → x.0 < n → has_ended ended x.0 ≡ true
+
+  all_earlier : (n : ℕ) (t : Numbered → Bool) → HasEndedBelow n → ((x : Numbered) → has_ended ended x.0 ≡ true → t x ≡ true) → list_all t (earlier session n) ≡ true
+  all_earlier n t below h = all_kept t (λ x. nat_lt x.0 n) (numbered session) (λ i x g q. h x (below i x g (less x.0 n q)))
+
+  pub all_waited_for : (n : ℕ) (x : Item) → HasEndedBelow n → waited_for session ended n x ≡ true
+  all_waited_for n (item.Request key script) below = all_earlier n (λ x. has_ended ended x.0 || is_of_another key x.1) below (λ x e. or_first (has_ended ended x.0) (is_of_another key x.1) e)
+  all_waited_for n (item.Clock moment) below = all_earlier n (λ x. has_ended ended x.0) below (λ x e. e)
+  all_waited_for n item.Settle below = all_earlier n (λ x. has_ended ended x.0) below (λ x e. e)
+  all_waited_for n (item.Browse criteria) below = all_earlier n (λ x. has_ended ended x.0) below (λ x e. e)
+
 -- ---- no work
 
 module _ (session : Session) (at : Position) (none : works session at ≡ []) where
@@ -111,30 +127,18 @@ module _ (session : Session) (at : Position) (none : works session at ≡ []) wh
 
   -- ---- so every item has ended
 
-  abbrev HasEndedBelow : ℕ → Type 0
-  HasEndedBelow n = (i : ℕ) (x : Numbered) → slice_get (numbered session) i ≡ Some x → x.0 < n → has_ended at.ended x.0 ≡ true
-
-  all_earlier : (n : ℕ) (t : Numbered → Bool) → HasEndedBelow n → ((x : Numbered) → has_ended at.ended x.0 ≡ true → t x ≡ true) → list_all t (earlier session n) ≡ true
-  all_earlier n t below h = all_kept t (λ x. nat_lt x.0 n) (numbered session) (λ i x g q. h x (below i x g (less x.0 n q)))
-
-  all_waited_for : (n : ℕ) (x : Item) → HasEndedBelow n → waited_for session at.ended n x ≡ true
-  all_waited_for n (item.Request key script) below = all_earlier n (λ x. has_ended at.ended x.0 || is_of_another key x.1) below (λ x e. or_first (has_ended at.ended x.0) (is_of_another key x.1) e)
-  all_waited_for n (item.Clock moment) below = all_earlier n (λ x. has_ended at.ended x.0) below (λ x e. e)
-  all_waited_for n item.Settle below = all_earlier n (λ x. has_ended at.ended x.0) below (λ x e. e)
-  all_waited_for n (item.Browse criteria) below = all_earlier n (λ x. has_ended at.ended x.0) below (λ x e. e)
-
   not_its_turn : (ended waited : Bool) → waited ≡ true → not ended && waited ≡ false → ended ≡ true
   not_its_turn true waited w h = refl
   not_its_turn false true w h = cc
   not_its_turn false false w h = cc
 
-  next_ended : (n : ℕ) → HasEndedBelow n → (i : ℕ) (x : Numbered) → slice_get (numbered session) i ≡ Some x → x.0 < suc n → (b : Bool) → nat_lt x.0 n ≡ b → has_ended at.ended x.0 ≡ true
+  next_ended : (n : ℕ) → HasEndedBelow session at.ended n → (i : ℕ) (x : Numbered) → slice_get (numbered session) i ≡ Some x → x.0 < suc n → (b : Bool) → nat_lt x.0 n ≡ b → has_ended at.ended x.0 ≡ true
   next_ended n below i x g h true q = below i x g (less x.0 n q)
   next_ended n below i x g h false q =
       let e : x.0 ≡ n = let l : n ≤ x.0 = not_less x.0 n q in omega (arith, l, h) in
-      not_its_turn (has_ended at.ended x.0) (waited_for session at.ended x.0 x.1) (all_waited_for x.0 x.1 (subst HasEndedBelow (sym e) below)) (no_turn i x g)
+      not_its_turn (has_ended at.ended x.0) (waited_for session at.ended x.0 x.1) (all_waited_for session at.ended x.0 x.1 (subst (HasEndedBelow session at.ended) (sym e) below)) (no_turn i x g)
 
-  ended_below : (n : ℕ) → HasEndedBelow n
+  ended_below : (n : ℕ) → HasEndedBelow session at.ended n
   ended_below zero i x g h = absurd (omega (arith, h))
   ended_below (suc n) i x g h = next_ended n (ended_below n) i x g h (nat_lt x.0 n) refl
 

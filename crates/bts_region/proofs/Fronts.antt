@@ -5,7 +5,8 @@ use Rattle.std.proofs.lemmas.Bool.{and_parts}
 use Rattle.bts_command.specs.declared.ended.Ended.{Ended}
 use Rattle.bts_region.specs.Enabled.{least}
 use Rattle.bts_region.specs.Histories.{IsClocked, IsLegal}
-use Rattle.bts_region.specs.Items.{clock_in, item_done}
+use Rattle.bts_region.specs.Items.{clock_in}
+use Rattle.bts_interp.specs.Items.{item_done}
 use Rattle.bts_region.specs.Kinds.{is_activation}
 use Rattle.bts_region.specs.Positions.{Position, behind, behind_all}
 use Rattle.bts_region.specs.Serial.{IsInOrder, IsLeast, IsSerial, activations_in, is_over}

@@ -16,7 +16,8 @@ use Rattle.bts_unit.specs.Systems.{system}
 use Rattle.bts_interp.proofs.Behind.{ended_stays}
 use Rattle.bts_interp.proofs.OneTalk.{talks_agree}
 use Rattle.bts_interp.specs.NextCalls.{unit_behind}
-use Rattle.bts_region.specs.Histories.{IsNext, texts_of}
+use Rattle.bts_region.specs.Histories.{IsNext}
+use Rattle.bts_interp.specs.Items.{texts_of}
 use Rattle.bts_region.specs.Kinds.{is_kept, is_rollback}
 use Rattle.bts_region.specs.Positions.{Position}
 use Rattle.bts_session.specs.declared.session.Session.{Session}

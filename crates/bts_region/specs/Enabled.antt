@@ -3,8 +3,8 @@ use Rattle.std.specs.Prelude.{ℕ, Bool, not, ◌&&◌, ◌||◌, nat_eq, List, 
 use Rattle.std.specs.List.{filter, list_any, slice_get}
 use Rattle.bts_command.specs.declared.ended.UnitKind.{UnitKind}
 use Rattle.bts_command.specs.declared.ended.UnitKind.TheVariants as unit
-use Rattle.bts_region.specs.Items.{Numbered, has_turn, is_settle, numbered, unit_of}
-use Rattle.bts_region.specs.Kinds.{item_of}
+use Rattle.bts_region.specs.Items.{has_turn, is_settle, unit_of}
+use Rattle.bts_interp.specs.Items.{Numbered, numbered, item_of}
 use Rattle.bts_region.specs.Positions.{Position}
 use Rattle.bts_session.specs.declared.session.Session.{Session}
 use Rattle.bts_tree.specs.Repositories.{Processes, due_in, ready_in, untold_in}

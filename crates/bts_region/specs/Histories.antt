@@ -7,7 +7,8 @@ use Rattle.bts_command.specs.declared.ended.UnitKind.TheVariants as unit
 use Rattle.bts_interp.specs.Talks.{IsTalk}
 use Rattle.bts_interp.specs.Texts.{Texts}
 use Rattle.bts_region.specs.Enabled.{is_enabled}
-use Rattle.bts_region.specs.Items.{block_in, clock_in, is_for, item_done, rows_in}
+use Rattle.bts_region.specs.Items.{clock_in, is_for, rows_in}
+use Rattle.bts_interp.specs.Items.{item_done, texts_of}
 use Rattle.bts_region.specs.Kinds.{is_committed}
 use Rattle.bts_region.specs.Positions.{Position, behind}
 use Rattle.bts_session.specs.declared.session.Session.{Session}
@@ -15,10 +16,6 @@ use Rattle.bts_tree.specs.Repositories.{Processes, process_at}
 use Rattle.bts_unit.specs.Playing.{Plays, begun}
 
 -- ---- one unit
-
--- the texts that a unit follows
-abbrev pub texts_of : Session → UnitKind → Texts
-texts_of session u = record { programs = session.programs; block = block_in (item_done session u) }
 
 -- the calls and the end of a request or an activation are those of its text
 abbrev pub FollowsText : Session → Processes → Ended → UnitKind → Type 0

@@ -1,37 +1,18 @@
--- The items of a session by their numbers, and whose turn it is.
+-- Units and their items, and whose turn it is.
 use Rattle.std.specs.Prelude.{◌≡◌, ℕ, ◌+◌, Bool, true, false, not, ◌&&◌, ◌||◌, nat_eq, nat_lt, List, [], Option, Some, None}
-use Rattle.std.specs.List.{EachIndex, count_by, enumerate_from, filter, find, list_all, list_any}
-use Rattle.std.specs.Option.{option_map}
+use Rattle.std.specs.List.{EachIndex, count_by, filter, list_all, list_any}
 use Rattle.bts_names.specs.declared.key.Key.{Key}
 use Rattle.bts_names.specs.declared.row.Row.{Row}
 use Rattle.bts_browse.specs.Met.{is_met}
 use Rattle.bts_command.specs.declared.ended.Ended.{Ended}
 use Rattle.bts_command.specs.declared.ended.UnitKind.{UnitKind}
 use Rattle.bts_command.specs.declared.ended.UnitKind.TheVariants as unit
-use Rattle.bts_interp.specs.Steps.{Script}
-use Rattle.bts_region.specs.Kinds.{item_of, items_of}
+use Rattle.bts_interp.specs.Items.{Numbered, numbered}
+use Rattle.bts_region.specs.Kinds.{items_of}
 use Rattle.bts_session.specs.declared.session.Item.{Item}
 use Rattle.bts_session.specs.declared.session.Item.TheVariants as item
 use Rattle.bts_session.specs.declared.session.Session.{Session}
 use Rattle.bts_tree.specs.Repositories.{Processes, rows, same_key}
-
--- an item with its number, from 1
-abbrev pub Numbered : Type 0
-Numbered = ℕ × Item
-
-abbrev pub numbered : Session → List Numbered
-numbered session = enumerate_from 1 session.items
-
-abbrev pub item_at : Session → ℕ → Option Item
-item_at session n = option_map (λ x. x.1) (find (λ x. nat_eq x.0 n) (numbered session))
-
--- the item that a unit does
-abbrev pub item_in : Session → Option ℕ → Option Item
-item_in session None = None
-item_in session (Some n) = item_at session n
-
-abbrev pub item_done : Session → UnitKind → Option Item
-item_done session u = item_in session (item_of u)
 
 -- ---- units and their items
 
@@ -52,11 +33,6 @@ is_for None (unit.Activation key path) = true
 is_for None (unit.Notice key path) = true
 is_for None (unit.Expiry key path timer) = true
 is_for _ _ = false
-
--- the block of a request
-abbrev pub block_in : Option Item → Script
-block_in (Some (item.Request key script)) = script
-block_in _ = []
 
 -- the moment of a CLOCK, and 0 of every other unit
 abbrev pub clock_in : Option Item → ℕ

@@ -7,14 +7,7 @@ use Rattle.bts_command.specs.declared.ended.End.TheVariants.{Commit, Rollback, A
 use Rattle.bts_command.specs.declared.ended.Ended.{Ended}
 use Rattle.bts_command.specs.declared.ended.UnitKind.{UnitKind}
 use Rattle.bts_command.specs.declared.ended.UnitKind.TheVariants as unit
-
--- the number of the session's item that a unit does
-abbrev pub item_of : UnitKind → Option ℕ
-item_of (unit.Request item key) = Some item
-item_of (unit.Clock item) = Some item
-item_of (unit.Settle item) = Some item
-item_of (unit.Browse item) = Some item
-item_of _ = None
+use Rattle.bts_interp.specs.Items.{item_of}
 
 abbrev pub is_activation : UnitKind → Bool
 is_activation (unit.Activation key path) = true

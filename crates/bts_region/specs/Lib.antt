@@ -5,3 +5,10 @@ pub mod Enabled
 pub mod Histories
 pub mod Serial
 pub mod Regions
+pub mod Today
+pub mod Answers
+pub mod Offered
+pub mod Fitting
+pub mod Keeps
+pub mod AsStation
+pub mod Widens

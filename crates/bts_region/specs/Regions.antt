@@ -4,6 +4,7 @@ use Rattle.std.specs.List.{AllByRecursion, count_by, find, list_all, list_any}
 use Rattle.bts_names.specs.declared.key.Key.{Key}
 use Rattle.bts_command.specs.declared.ended.Ended.{Ended}
 use Rattle.bts_command.specs.declared.ended.UnitKind.{UnitKind}
+use Rattle.bts_interp.specs.Stations.{Out}
 use Rattle.bts_region.specs.Enabled.{is_enabled, least, works}
 use Rattle.bts_region.specs.Histories.{IsLegal}
 use Rattle.bts_region.specs.Kinds.{is_activation, items_of, key_of}
@@ -12,10 +13,6 @@ use Rattle.bts_region.specs.Serial.{IsInOrder, activations_in}
 use Rattle.bts_session.specs.declared.session.Session.{Session}
 use Rattle.bts_tree.specs.Repositories.{same_key}
 use Rattle.bts_tree.specs.Scopes.{is_empty}
-
--- a unit that is out, with its ticket
-abbrev pub Out : Type 0
-Out = ℕ × UnitKind
 
 -- the session, the most activations, where the history began, the moment, the ended units, and those that are out
 pub record RegionState : Type 0 where

@@ -1,13 +1,25 @@
-//! Which work is enabled where a history has come to, which histories of a session are legal, and which one is serial.
+//! Which work is enabled where a history has come to, which histories of a session are legal, and which one is serial; and
+//! the region, in memory, in which a session's units are given out and end.
 //!
-//! So far there are definitions and laws. In `specs/`: `Kinds` (which units do items, and which are committed), `Items` (the
-//! items of a session and whose turn it is), `Positions` (where a history has come to), `Enabled` (the work that may be
-//! taken there, in order), `Histories` (legal and clocked histories), `Serial` (the serial one) and `Regions` (what is
-//! answered to whoever asks for work).
+//! In `specs/`: `Kinds` (which units do items, and which are committed), `Items` (the items of a session and whose turn it
+//! is), `Positions` (where a history has come to), `Enabled` (the work that may be taken there, in order), `Histories`
+//! (legal and clocked histories), `Serial` (the serial one), `Regions` (what is answered to whoever asks for work),
+//! `Answers` (what each call of a region answers and leaves), `AsStation` (a region as a station), `Today` (the sessions
+//! that a region does today) and `Keeps` (what its fields keep).
 #![tactic(auto)]
 
+mod finding;
+mod finishing;
 mod laws;
+mod region;
+mod seat;
+mod taking;
 
 pub use laws::{
-    each_item_is_done_once, the_serial_history_is_one, without_work_every_item_has_ended,
+    each_item_is_done_once, the_first_work_is_on_offer, the_serial_history_is_one,
+    without_work_every_item_has_ended,
 };
+pub use region::{Closed, Region};
+
+#[cfg(test)]
+mod tests;

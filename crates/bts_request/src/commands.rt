@@ -2,7 +2,7 @@
 ghost use Rattle.std.specs.Prelude.{◌≡◌, ◌<◌, ◌-◌, ◌^◌, [], IsTrue};
 ghost use Rattle.bts_tree.specs.Scopes.{holding};
 ghost use Rattle.bts_tree.specs.Soundness.{IsSoundInFrames, numbers_below};
-ghost use Rattle.bts_rows.specs.Given.{IsGiven};
+ghost use Rattle.bts_command.specs.Given.{IsGiven};
 ghost use Rattle.bts_rows.specs.Rows.{request_in};
 ghost use Rattle.bts_act.specs.Does.{Does};
 ghost use Rattle.bts_act.specs.Early.{none_early};

@@ -2,7 +2,7 @@
 ghost use Rattle.std.specs.Prelude.{◌≡◌, ◌&&◌, ◌-◌, ◌^◌, IsTrue, IfSome, not, nat_lt};
 ghost use Rattle.std.specs.List.{list_all, list_any};
 ghost use Rattle.bts_tree.specs.Soundness.{numbers_below};
-ghost use Rattle.bts_rows.specs.Given.{IsGiven, is_systems, names_of_spot, names_of_target};
+ghost use Rattle.bts_command.specs.Given.{IsGiven, is_systems, names_of_spot, names_of_target};
 ghost use Rattle.bts_request.specs.Today.{is_of_request};
 
 use crate::request;

@@ -1,11 +1,10 @@
 -- The commands of one activity keep a process sound.
-use Rattle.std.proofs.Common.{◌≡◌, ◌≤◌, ℕ, if◌then◌else◌, Bool, true, false, cond, not, List, [], ◌∷◌, length, Option, Some, None, Result, Ok, Err, is_some, unwrap_or, option_to_list, refl, sym, ap, subst}
+use Rattle.std.proofs.Common.{◌≡◌, ◌≤◌, ℕ, if◌then◌else◌, Bool, true, false, cond, not, List, [], ◌∷◌, length, Option, Some, None, Ok, is_some, unwrap_or, option_to_list, refl, sym, ap, subst}
 use Rattle.std.specs.List.{list_any}
 use Rattle.std.proofs.lemmas.Bool.{or_parts}
 use Rattle.bts_names.specs.Names.{Name, ActivityPath, Bytes, same, initial_name, root_name}
 use Rattle.bts_names.specs.Named.{lookup, is_there}
-use Rattle.bts_names.specs.Answer.{Answer, at_some, at_ok, left_by, refuse◌because◌when◌otherwise◌, refuse◌for◌otherwise◌}
-use Rattle.bts_names.specs.declared.reply.Resp.{Resp}
+use Rattle.bts_names.specs.Answer.{Answer, left_by}
 use Rattle.bts_names.specs.declared.reply.Resp.TheVariants as resp
 use Rattle.bts_names.specs.declared.reply.Reason.{Reason}
 use Rattle.bts_names.specs.declared.reply.Reason.TheVariants as reason
@@ -32,16 +31,17 @@ use Rattle.bts_tree.specs.declared.activity.Activity.{Activity}
 use Rattle.bts_tree.specs.Activities.{Activities}
 use Rattle.bts_tree.specs.Processes.{Process, activity_at, edited, has_tree}
 use Rattle.bts_tree.specs.Soundness.{IsSoundInFrames, IsSoundUnder, IsSoundActivity}
-use Rattle.bts_rows.specs.Targets.{AtActivity, Here, Named, Store, at_named, at_own, at_path, at_place, at_target, containers_of, in_activity, in_request, is_read_only, named_by, none, of_activity, of_process, path, stored, with_stored}
+use Rattle.bts_rows.specs.Targets.{Here, Store, at_place, containers_of, in_activity, in_request, is_read_only, of_activity, of_process, stored, with_stored}
 use Rattle.bts_rows.specs.ActRows as row
 use Rattle.bts_rows.specs.Rows.{act_at}
-use Rattle.bts_rows.specs.Given.{IsGiven, is_systems}
+use Rattle.bts_command.specs.Given.{IsGiven, is_systems}
 use Rattle.bts_rows.proofs.Edits.{HasOrder}
 use Rattle.bts_rows.proofs.Frames.{act_on_whole}
 use Rattle.bts_rows.proofs.ContainerChanges.{pool_delete, pool_put}
 use Rattle.bts_rows.proofs.InPlace.{FitsIn, edited_keeps_soundness, stands_at}
 use Rattle.bts_rows.proofs.Keeps.{Keeps, is_owned}
 use Rattle.bts_rows.proofs.Fits.{fits_containers, fits_pool, sound_define, unless_none}
+use Rattle.bts_rows.proofs.Leaving.{Leaves, leaves_for, leaves_ok, leaves_own, leaves_some, leaves_target, leaves_when}
 use Rattle.bts_rows.proofs.TimerFits.{fits_forced, fits_timer, fits_without}
 use Rattle.bts_rows.proofs.PoolKeeps.{composite_free, define_free, delete_unowned, keeps_added, keeps_defined, keeps_deleted, keeps_removed, keeps_retrieved, keeps_subevent_retrieved}
 
@@ -91,60 +91,28 @@ not_missing : (b : Bool) → not b ≡ false → b ≡ true
 not_missing true h = refl
 not_missing false h = cc
 
-define_allowed : (e : Name) (es : Events) → is_there e es ≡ false → refusals.is_full es ≡ false → refusals.define_refusal e es ≡ None
+pub define_allowed : (e : Name) (es : Events) → is_there e es ≡ false → refusals.is_full es ≡ false → refusals.define_refusal e es ≡ None
 define_allowed e es h g = rw (h, g)
 
 module _ (frames : List ActivityPath) (s : Process) (sound : IsSoundInFrames frames s) where
+  abbrev Sound : Process → Type 0
+  Sound = IsSoundInFrames frames
+
   abbrev pub LeavesSound : Answer Process → Type 0
-  LeavesSound x = IsSoundInFrames frames (left_by s x)
+  LeavesSound = Leaves Sound s
 
-  -- ---- refusals
-
-  pub sound_when : (r : Resp) (why : Reason) (b : Bool) (rest : Answer Process) → (b ≡ false → LeavesSound rest) → LeavesSound (refuse r because why when b otherwise rest)
-  sound_when r why true rest f = sound
-  sound_when r why false rest f = f refl
-
-  pub sound_for : (r : Resp) (o : Option Reason) (rest : Answer Process) → (o ≡ None → LeavesSound rest) → LeavesSound (refuse r for o otherwise rest)
-  sound_for r (Some why) rest f = sound
-  sound_for r None rest f = f refl
-
-  pub sound_some : {A : Type 0} (r : Resp) (why : Reason) (o : Option A) (rest : A → Answer Process) → ((x : A) → o ≡ Some x → LeavesSound (rest x)) → LeavesSound (at_some r why o rest)
-  sound_some r why None rest f = sound
-  sound_some r why (Some x) rest f = f x refl
-
-  sound_ok : {A : Type 0} (r : Resp) (o : Result A Reason) (rest : A → Answer Process) → ((x : A) → o ≡ Ok x → LeavesSound (rest x)) → LeavesSound (at_ok r o rest)
-  sound_ok r (Err why) rest f = sound
-  sound_ok r (Ok x) rest f = f x refl
-
-  -- ---- where a command stands, and what it is about
-
-  abbrev OfActivity : AtActivity → Type 0
-  OfActivity rest = (p : ActivityPath) (a : Activity) → activity_at p s ≡ Some a → LeavesSound (rest p a)
-
-  sound_path : (p : ActivityPath) (rest : AtActivity) → OfActivity rest → LeavesSound (at_path s p rest)
-  sound_path p rest f = sound_some resp.Activityerr reason.Missing (activity_at p s) (rest p) (f p)
-
-  sound_own : (here : Here) (rest : AtActivity) → OfActivity rest → LeavesSound (at_own here s rest)
-  sound_own (in_activity p) rest f = sound_path p rest f
-  sound_own (in_request h) rest f = sound
-
-  sound_named : (named : Named) (rest : AtActivity) → OfActivity rest → LeavesSound (at_named s named rest)
-  sound_named (none r why) rest f = sound
-  sound_named (path p) rest f = sound_path p rest f
-
-  pub sound_target : (here : Here) (target : Target) (rest : AtActivity) → OfActivity rest → LeavesSound (at_target here s target rest)
-  sound_target here target rest f = sound_named (named_by here s target) rest f
+  -- ---- what a command is about
 
   has_tree_at : (p : ActivityPath) → is_some (activity_at p s) ≡ true → has_tree s ≡ true
   has_tree_at p h = tree_case s.tree p h
 
   sound_place : (here : Here) (place : Spot) (rest : Store → Answer Process) → IsInPlace here s → ((store : Store) → HasStore store s → LeavesSound (rest store)) → LeavesSound (at_place here s place rest)
-  sound_place here spot.Own rest i f = sound_own here (λ p a. rest (of_activity p)) (λ p a h. f (of_activity p) (ap is_some h))
+  sound_place here spot.Own rest i f = leaves_own Sound s sound here (λ p a. rest (of_activity p)) (λ p a h. f (of_activity p) (ap is_some h))
   sound_place (in_activity p) spot.Process rest i f = f of_process (has_tree_at p i)
   sound_place (in_request h) spot.Process rest i f = sound
-  sound_place here (spot.Of of.AcqProcess) rest i f = sound_target here of.AcqProcess (λ p a. rest of_process) (λ p a h. f of_process (has_tree_at p (ap is_some h)))
-  sound_place here (spot.Of (of.Activity c)) rest i f = sound_target here (of.Activity c) (λ p a. rest (of_activity p)) (λ p a h. f (of_activity p) (ap is_some h))
-  sound_place here (spot.Of of.AcqActivity) rest i f = sound_target here of.AcqActivity (λ p a. rest (of_activity p)) (λ p a h. f (of_activity p) (ap is_some h))
+  sound_place here (spot.Of of.AcqProcess) rest i f = leaves_target Sound s sound here of.AcqProcess (λ p a. rest of_process) (λ p a h. f of_process (has_tree_at p (ap is_some h)))
+  sound_place here (spot.Of (of.Activity c)) rest i f = leaves_target Sound s sound here (of.Activity c) (λ p a. rest (of_activity p)) (λ p a h. f (of_activity p) (ap is_some h))
+  sound_place here (spot.Of of.AcqActivity) rest i f = leaves_target Sound s sound here of.AcqActivity (λ p a. rest (of_activity p)) (λ p a h. f (of_activity p) (ap is_some h))
 
   -- ---- what is done
 
@@ -180,22 +148,22 @@ module _ (frames : List ActivityPath) (s : Process) (sound : IsSoundInFrames fra
     sound_put : (c : Name) (place : Spot) (bytes : Bytes) → LeavesSound (row.put_container_row here s c place bytes)
     sound_put c place bytes =
         sound_place here place _ i λ store h.
-        sound_when resp.Invreq reason.ReadOnly (is_read_only here place) _ λ w.
-        sound_when resp.Lengerr reason.Long (is_long bytes) _ λ l.
-        sound_when resp.Containererr reason.Limit (has_no_room c (stored store s)) _ λ r.
+        leaves_when Sound s sound resp.Invreq reason.ReadOnly (is_read_only here place) _ λ w.
+        leaves_when Sound s sound resp.Lengerr reason.Long (is_long bytes) _ λ l.
+        leaves_when Sound s sound resp.Containererr reason.Limit (has_no_room c (stored store s)) _ λ r.
         sound_stored store (put_container c bytes) h (pool_put c bytes (stored store s) (stored_pool store h) l r)
 
     sound_get : (c : Name) (place : Spot) → LeavesSound (row.get_container_row here s c place)
     sound_get c place =
         sound_place here place _ i λ store h.
-        sound_some resp.Containererr reason.Missing (lookup c (stored store s)) _ λ bytes g.
+        leaves_some Sound s sound resp.Containererr reason.Missing (lookup c (stored store s)) _ λ bytes g.
         sound
 
     sound_drop : (c : Name) (place : Spot) → LeavesSound (row.delete_container_row here s c place)
     sound_drop c place =
         sound_place here place _ i λ store h.
-        sound_when resp.Invreq reason.ReadOnly (is_read_only here place) _ λ w.
-        sound_when resp.Containererr reason.Missing (not (is_there c (stored store s))) _ λ l.
+        leaves_when Sound s sound resp.Invreq reason.ReadOnly (is_read_only here place) _ λ w.
+        leaves_when Sound s sound resp.Containererr reason.Missing (not (is_there c (stored store s))) _ λ l.
         sound_stored store (delete_container c) h (pool_delete c (stored store s) (stored_pool store h))
 
   -- ---- the rows of events
@@ -204,8 +172,8 @@ module _ (frames : List ActivityPath) (s : Process) (sound : IsSoundInFrames fra
       → ((p : Pool) → IsSoundPool p → why p.events ≡ None → IsSoundPool (change p))
       → ((p : Pool) → IsSoundPool p → why p.events ≡ None → Keeps is_owned p.events (change p).events) → LeavesSound (row.event_row here s why change)
   sound_events here why change f g =
-      sound_own here _ λ p a h.
-      sound_for resp.Eventerr (why a.pool.events) _ λ r.
+      leaves_own Sound s sound here _ λ p a h.
+      leaves_for Sound s sound resp.Eventerr (why a.pool.events) _ λ r.
       let own = own_sound p a h in
       sound_edited p (λ b. record b { pool = change b.pool }) a h (fits_pool a own (change a.pool) (f a.pool own.pool r) (g a.pool own.pool r))
 
@@ -242,22 +210,22 @@ module _ (frames : List ActivityPath) (s : Process) (sound : IsSoundInFrames fra
 
     sound_test : (e : Name) → LeavesSound (row.test_event_row here s e)
     sound_test e =
-        sound_own here _ λ p a h.
-        sound_ok resp.Eventerr (test_of a.pool.events (lookup e a.pool.events)) _ λ fired g.
+        leaves_own Sound s sound here _ λ p a h.
+        leaves_ok Sound s sound resp.Eventerr (test_of a.pool.events (lookup e a.pool.events)) _ λ fired g.
         sound
 
     sound_retrieve : LeavesSound (row.retrieve_reattach_row here s)
     sound_retrieve =
-        sound_own here _ λ p a h.
-        sound_some resp.End reason.Empty (first_entry a.pool.entries a.pool.events) _ λ e g.
+        leaves_own Sound s sound here _ λ p a h.
+        leaves_some Sound s sound resp.End reason.Empty (first_entry a.pool.entries a.pool.events) _ λ e g.
         let own = own_sound p a h in
         sound_edited p (λ b. record b { pool = retrieved b.pool }) a h (fits_pool a own (retrieved a.pool) (after_sound calls.retrieve a.pool tt own.pool) (keeps_retrieved is_owned a.pool))
 
     sound_retrieve_sub : (e : Name) → LeavesSound (row.retrieve_subevent_row here s e)
     sound_retrieve_sub e =
-        sound_own here _ λ p a h.
-        sound_for resp.Eventerr (refusals.not_composite (lookup e a.pool.events)) _ λ r.
-        sound_ok resp.End (next_subevent e a.pool) _ λ sub g.
+        leaves_own Sound s sound here _ λ p a h.
+        leaves_for Sound s sound resp.Eventerr (refusals.not_composite (lookup e a.pool.events)) _ λ r.
+        leaves_ok Sound s sound resp.End (next_subevent e a.pool) _ λ sub g.
         let own = own_sound p a h in
         sound_edited p (λ b. record b { pool = subevent_retrieved e b.pool }) a h
         (fits_pool a own (subevent_retrieved e a.pool) (after_sound (calls.retrieve_subevent e) a.pool tt own.pool) (keeps_subevent_retrieved is_owned e a.pool))
@@ -266,24 +234,24 @@ module _ (frames : List ActivityPath) (s : Process) (sound : IsSoundInFrames fra
 
     sound_timer : (now : ℕ) (t : Name) (e : Option Name) (due : Due) → same (unwrap_or e t) initial_name ≡ false → LeavesSound (row.define_timer_row here now s t e due)
     sound_timer now t e due n =
-        sound_own here _ λ p a h.
-        sound_when resp.Timererr reason.Taken (is_there t a.timers) _ λ no_timer.
-        sound_when resp.Eventerr reason.Taken (is_there (unwrap_or e t) a.pool.events) _ λ no_event.
-        sound_when resp.Invreq reason.Range (row.is_past_last now due) _ λ in_range.
-        sound_when resp.Eventerr reason.Limit (refusals.is_full a.pool.events) _ λ room.
+        leaves_own Sound s sound here _ λ p a h.
+        leaves_when Sound s sound resp.Timererr reason.Taken (is_there t a.timers) _ λ no_timer.
+        leaves_when Sound s sound resp.Eventerr reason.Taken (is_there (unwrap_or e t) a.pool.events) _ λ no_event.
+        leaves_when Sound s sound resp.Invreq reason.Range (row.is_past_last now due) _ λ in_range.
+        leaves_when Sound s sound resp.Eventerr reason.Limit (refusals.is_full a.pool.events) _ λ room.
         sound_edited p (row.with_timer t (unwrap_or e t) (row.due_at now due)) a h
         (fits_timer t (unwrap_or e t) (row.due_at now due) a (own_sound p a h) no_timer (define_allowed (unwrap_or e t) a.pool.events no_event room) n)
 
     forced_by : (t : Name) (p : ActivityPath) (a : Activity) → activity_at p s ≡ Some a
         → LeavesSound (row.forcing s t p a)
     forced_by t p a h =
-        sound_for resp.Timererr (force_refusal t a.timers) _ λ r.
+        leaves_for Sound s sound resp.Timererr (force_refusal t a.timers) _ λ r.
         let x = running_case (lookup t a.timers) t a.timers refl r in
         sound_edited p (row.with_forced t) a h (fits_forced t x.timer a (own_sound p a h) x.found x.unexpired)
 
     sound_force : (t : Name) (target : Option Target) → LeavesSound (row.force_timer_row here s t target)
-    sound_force t None = sound_own here _ (forced_by t)
-    sound_force t (Some target) = sound_target here target _ (forced_by t)
+    sound_force t None = leaves_own Sound s sound here _ (forced_by t)
+    sound_force t (Some target) = leaves_target Sound s sound here target _ (forced_by t)
 
     taken_away : (t : Name) (p : ActivityPath) (a : Activity) → activity_at p s ≡ Some a → is_there t a.timers ≡ true → IsSoundInFrames frames (edited p (row.without_timer t) s)
     taken_away t p a h there = by (lookup t a.timers) refl there
@@ -294,8 +262,8 @@ module _ (frames : List ActivityPath) (s : Process) (sound : IsSoundInFrames fra
 
     sound_check : (t : Name) → LeavesSound (row.check_timer_row here s t)
     sound_check t =
-        sound_own here _ λ p a h.
-        sound_ok resp.Timererr (status_or_missing (lookup t a.timers)) _ λ status g.
+        leaves_own Sound s sound here _ λ p a h.
+        leaves_ok Sound s sound resp.Timererr (status_or_missing (lookup t a.timers)) _ λ status g.
         by (is_unexpired_status status) p a h (there (lookup t a.timers) status g)
       where
         there : (o : Option OneTimer) (status : TimerStatus) → status_or_missing o ≡ Ok status → is_some o ≡ true
@@ -308,8 +276,8 @@ module _ (frames : List ActivityPath) (s : Process) (sound : IsSoundInFrames fra
 
     sound_delete_timer : (t : Name) → LeavesSound (row.delete_timer_row here s t)
     sound_delete_timer t =
-        sound_own here _ λ p a h.
-        sound_when resp.Timererr reason.Missing (not (is_there t a.timers)) _ λ g.
+        leaves_own Sound s sound here _ λ p a h.
+        leaves_when Sound s sound resp.Timererr reason.Missing (not (is_there t a.timers)) _ λ g.
         taken_away t p a h (not_missing (is_there t a.timers) g)
 
   -- ---- the table
@@ -336,7 +304,7 @@ module _ (frames : List ActivityPath) (s : Process) (sound : IsSoundInFrames fra
 
 -- ---- in a frame
 
-order_case : (s : Process) (o : Option Activities) → IsSoundUnder s o → HasOrder o
+pub order_case : (s : Process) (o : Option Activities) → IsSoundUnder s o → HasOrder o
 order_case s None u = tt
 order_case s (Some t) u = (u.0).paths_rise
 

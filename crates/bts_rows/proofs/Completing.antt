@@ -1,9 +1,9 @@
 -- An activity becomes COMPLETE, and those below it are FORCED: that keeps a process sound where none of them has an open frame.
-use Rattle.std.proofs.Common.{◌≡◌, ℕ, zero, suc, arith, Bool, true, false, cond, not, ◌&&◌, ◌||◌, ◌-◌, nat_eq, nat_le, length, take, List, [], ◌∷◌, map, Option, Some, None, is_some, is_none, option_map, unwrap_or, IsTrue, refl, sym, ap, subst, ◌∙◌, true≢false}
-use Rattle.std.specs.List.{filter, list_all, list_any, AllByRecursion, IsDistinct}
+use Rattle.std.proofs.Common.{◌≡◌, ℕ, zero, suc, arith, Bool, true, false, cond, not, ◌&&◌, ◌||◌, ◌-◌, nat_eq, nat_le, length, take, List, [], ◌∷◌, map, Option, Some, None, is_some, is_none, option_map, unwrap_or, refl, sym, ap, subst, ◌∙◌, true≢false}
+use Rattle.std.specs.List.{list_all, list_any, AllByRecursion, IsDistinct}
 use Rattle.std.specs.List.Sorted.{IsStrictlySortedBy}
 use Rattle.std.specs.Map.{keys_of}
-use Rattle.std.proofs.lemmas.Bool.{and_parts, eq-eqb}
+use Rattle.std.proofs.lemmas.Bool.{eq-eqb}
 use Rattle.std.proofs.lemmas.Map.Keys.{sorted_tail}
 use Rattle.bts_names.specs.Names.{Name, ActivityPath, same, same_exact, root_name}
 use Rattle.bts_names.specs.Named.{lookup, is_there}
@@ -12,16 +12,19 @@ use Rattle.bts_names.specs.declared.state.Status.TheVariants as status
 use Rattle.bts_event.specs.declared.event.Event.{Event}
 use Rattle.bts_event.specs.Events.{is_completion, is_completion_of}
 use Rattle.bts_event.proofs.Accounts.{clear_sound}
+use Rattle.bts_event.proofs.Same.{same_refl}
 use Rattle.bts_tree.specs.declared.activity.Activity.{Activity}
 use Rattle.bts_tree.specs.Activities.{Activities, completed, completed_at, completed_one, forced, is_complete}
 use Rattle.bts_tree.specs.Modes.{is_mode_active}
 use Rattle.bts_tree.specs.Paths.{is_child_of, leads_to, number_of, parent_of}
 use Rattle.bts_tree.specs.Processes.{Process, activity_at, complete}
-use Rattle.bts_tree.specs.Soundness.{FitsChildren, FitsParent, IsSoundActivity, IsSoundInFrames, IsSoundTree, IsSoundUnder, children_of, is_abend, is_event_of_child, is_fired, is_incomplete, is_root, needs_event, parent_passes}
+use Rattle.bts_tree.specs.Soundness.{FitsChildren, FitsParent, IsSoundActivity, IsSoundInFrames, IsSoundTree, children_of, is_abend, is_event_of_child, is_fired, is_incomplete, is_root, needs_event, parent_passes}
+use Rattle.bts_rows.proofs.Active.{active_at, is_active, runs_at, sound_in_frames}
 use Rattle.bts_rows.proofs.Entries.{behind_first, both_so, here}
 use Rattle.bts_rows.proofs.InPlace.{parent_or, stands_at}
 use Rattle.bts_rows.proofs.Local.{completes_none}
-use Rattle.bts_rows.proofs.Order.{IsInOrder, leads_on, path_cmp}
+use Rattle.bts_rows.proofs.Order.{IsInOrder, leads_on, leads_own, path_cmp}
+use Rattle.bts_rows.proofs.Turned.{active_goes_on}
 use Rattle.bts_rows.proofs.Written.{list_all-same}
 
 -- ---- activities that stand where they are found
@@ -301,58 +304,65 @@ module _ (p : ActivityPath) (s : Status) (code : Option Name) where
 
   -- ---- which activities are ACTIVE
 
-  module _ (frames : List ActivityPath) (closed : (q : ActivityPath) → list_any (same q) frames ≡ true → leads_to p q ≡ false) where
-    abbrev is_open : ActivityPath → Bool
-    is_open q = list_any (same q) frames
+  ended_case : (b d : Bool) (a : Activity) → is_mode_active (one_of b true d a).mode ≡ false
+  ended_case true d a = refl
+  ended_case false true a = refl
+  ended_case false false a = refl
 
-    abbrev active : Activities → List ActivityPath
-    active u = keys_of (filter (λ x. is_mode_active x.1.mode) u)
+  module _ (t : Activities) (frames others : List ActivityPath) (active : (q : ActivityPath) → is_active (lookup q t) ≡ list_any (same q) frames)
+      (inside : (q : ActivityPath) → leads_to p q ≡ true → list_any (same q) others ≡ false)
+      (apart : (q : ActivityPath) → leads_to p q ≡ false → list_any (same q) others ≡ list_any (same q) frames) where
+    ends_at : (q : ActivityPath) (o : Option Activity) → leads_to p q ≡ true → is_active (option_map (λ a. by (q, a)) o) ≡ false
+    ends_at q None l = refl
+    ends_at q (Some a) l = ap (λ c. is_mode_active (one_of (same p q) c (is_complete a) a).mode) l ∙ ended_case (same p q) (is_complete a) a
 
-    ended_case : (b c d : Bool) (a : Activity) → is_mode_active a.mode ≡ false → is_mode_active (one_of b c d a).mode ≡ false
-    ended_case true c d a h = refl
-    ended_case false true true a h = refl
-    ended_case false true false a h = refl
-    ended_case false false d a h = h
+    stays_at : (q : ActivityPath) (o : Option Activity) → leads_to p q ≡ false → is_active (option_map (λ a. by (q, a)) o) ≡ is_active o
+    stays_at q None l = refl
+    stays_at q (Some a) l = ap (λ y. is_mode_active y.mode) (outside (q, a) l)
 
-    active_case : (b c : Bool) (x : ActivityPath × Activity) (u v : Activities) → is_mode_active x.1.mode ≡ b → is_mode_active (by x).mode ≡ c → (b ≡ true → c ≡ true) → (b ≡ false → c ≡ false) → keys_of v ≡ keys_of u
-        → keys_of (cond c ((x.0, by x) ∷ v) v) ≡ keys_of (cond b (x ∷ u) u)
-    active_case true true x u v e d f g i = ap (λ k. x.0 ∷ k) i
-    active_case true false x u v e d f g i = absurd (true≢false (sym (f refl)))
-    active_case false true x u v e d f g i = absurd (true≢false (g refl))
-    active_case false false x u v e d f g i = i
+    active_case : (b : Bool) (q : ActivityPath) → leads_to p q ≡ b → is_active (option_map (λ a. by (q, a)) (lookup q t)) ≡ list_any (same q) others
+    active_case true q l = ends_at q (lookup q t) l ∙ sym (inside q l)
+    active_case false q l = stays_at q (lookup q t) l ∙ active q ∙ sym (apart q l)
 
-    stays_active : (x : ActivityPath × Activity) → is_open x.0 ≡ true → is_mode_active x.1.mode ≡ true → is_mode_active (by x).mode ≡ true
-    stays_active x o h = ap (λ y. is_mode_active y.mode) (outside x (closed x.0 o)) ∙ h
-
-    still_active : (u : Activities) → list_all is_open (active u) ≡ true → active (each by u) ≡ active u
-    still_active [] h = refl
-    still_active (x ∷ u) h = go (is_mode_active x.1.mode) refl h (still_active u)
-      where
-        go : (b : Bool) → is_mode_active x.1.mode ≡ b → list_all is_open (keys_of (cond b (x ∷ filter (λ y. is_mode_active y.1.mode) u) (filter (λ y. is_mode_active y.1.mode) u))) ≡ true → (list_all is_open (active u) ≡ true → active (each by u) ≡ active u)
-            → keys_of (cond (is_mode_active (by x).mode) ((x.0, by x) ∷ filter (λ y. is_mode_active y.1.mode) (each by u)) (filter (λ y. is_mode_active y.1.mode) (each by u)))
-            ≡ keys_of (cond b (x ∷ filter (λ y. is_mode_active y.1.mode) u) (filter (λ y. is_mode_active y.1.mode) u))
-        go true e k i =
-            let a = and_parts (is_open x.0) (list_all is_open (active u)) k in
-            active_case true (is_mode_active (by x).mode) x _ _ e refl (λ d. stays_active x a.0 e) (λ d. absurd (true≢false d)) (i a.1)
-        go false e k i =
-            active_case false (is_mode_active (by x).mode) x _ _ e refl (λ d. absurd (true≢false (sym d))) (λ d. ended_case (same p x.0) (leads_to p x.0) (is_complete x.1) x.1 e) (i k)
+    still_active : (q : ActivityPath) → is_active (lookup q (each by t)) ≡ list_any (same q) others
+    still_active q = ap is_active (read_each by q t) ∙ active_case (leads_to p q) q refl
 
 -- ---- in a process
+
+-- an activity that isn't COMPLETE becomes so, and the frames at its path and below it close
+pub complete_closes : (frames others : List ActivityPath) (p : ActivityPath) (s : Status) (code : Option Name) (whole : Process) (a : Activity)
+    → is_incomplete s ≡ false → is_some code ≡ is_abend s → ((q : ActivityPath) → leads_to p q ≡ true → list_any (same q) others ≡ false)
+    → ((q : ActivityPath) → leads_to p q ≡ false → list_any (same q) others ≡ list_any (same q) frames)
+    → IsSoundInFrames frames whole → activity_at p whole ≡ Some a → is_complete a ≡ false → IsSoundInFrames others (complete p s code whole)
+complete_closes frames others p s code whole a ends coded inside apart sound there running =
+    let at = stands_at frames whole p a sound there in
+    sound_in_frames others (complete p s code whole) (completed_at p s code at.tree) (ap (option_map (completed_at p s code)) at.is_tree)
+    (tree_completed p s code at.tree a at.found running ends coded at.sound) at.defined sound.containers
+    (still_active p s code at.tree frames others (λ q. ap (λ o. is_active (lookup q (unwrap_or o []))) (sym at.is_tree) ∙ active_at frames whole sound q) inside apart)
+
+none_inside : (frames : List ActivityPath) (p q : ActivityPath) (b : Bool) → list_any (same q) frames ≡ b → (b ≡ true → leads_to p q ≡ false) → leads_to p q ≡ true → b ≡ false
+none_inside frames p q true e closed l = absurd (true≢false (sym l ∙ closed refl))
+none_inside frames p q false e closed l = refl
 
 -- an activity that isn't COMPLETE becomes so, where neither it nor any below it has an open frame
 pub complete_keeps_soundness : (frames : List ActivityPath) (p : ActivityPath) (s : Status) (code : Option Name) (whole : Process) (a : Activity)
     → is_incomplete s ≡ false → is_some code ≡ is_abend s → ((q : ActivityPath) → list_any (same q) frames ≡ true → leads_to p q ≡ false)
     → IsSoundInFrames frames whole → activity_at p whole ≡ Some a → is_complete a ≡ false → IsSoundInFrames frames (complete p s code whole)
-complete_keeps_soundness frames p s code whole a ends coded closed sound there running =
-    let at = stands_at frames whole p a sound there in
-    let after = complete p s code whole in
-    let changed : after.tree ≡ Some (completed_at p s code at.tree) = ap (option_map (completed_at p s code)) at.is_tree in
-    let same_active : keys_of (filter (λ x. is_mode_active x.1.mode) (unwrap_or after.tree [])) ≡ keys_of (filter (λ x. is_mode_active x.1.mode) (unwrap_or whole.tree [])) =
-    ap (λ o. keys_of (filter (λ x. is_mode_active x.1.mode) (unwrap_or o []))) changed
-    ∙ still_active p s code frames closed at.tree (subst (λ o. list_all (λ q. list_any (same q) frames) (keys_of (filter (λ x. is_mode_active x.1.mode) (unwrap_or o []))) ≡ true) at.is_tree (and_parts _ _ sound.active).0)
-    ∙ sym (ap (λ o. keys_of (filter (λ x. is_mode_active x.1.mode) (unwrap_or o []))) at.is_tree) in
-    record {
-      tree = subst (IsSoundUnder after) (sym changed) (tree_completed p s code at.tree a at.found running ends coded at.sound, at.defined);
-      containers = sound.containers;
-      active = subst (λ ps. IsTrue (list_all (λ q. list_any (same q) frames) ps && list_all (λ q. list_any (same q) ps) frames)) (sym same_active) sound.active;
-    }
+complete_keeps_soundness frames p s code whole a ends coded closed =
+    complete_closes frames frames p s code whole a ends coded (λ q. none_inside frames p q (list_any (same q) frames) refl (closed q)) (λ q l. refl)
+
+-- the activity of an open frame becomes COMPLETE, and its frame closes; none of the others is below it
+pub ending_keeps_soundness : (frames : List ActivityPath) (p : ActivityPath) (s : Status) (code : Option Name) (whole : Process)
+    → is_incomplete s ≡ false → is_some code ≡ is_abend s → ((q : ActivityPath) → list_any (same q) frames ≡ true → leads_to p q ≡ false)
+    → IsSoundInFrames (p ∷ frames) whole → IsSoundInFrames frames (complete p s code whole)
+ending_keeps_soundness frames p s code whole ends coded closed sound =
+    let at = runs_at (p ∷ frames) p whole sound (ap (λ b. b || list_any (same p) frames) (same_refl p)) in
+    complete_closes (p ∷ frames) frames p s code whole at.activity ends coded (λ q. none_inside frames p q (list_any (same q) frames) refl (closed q))
+    (λ q l. sym (ap (λ b. b || list_any (same q) frames) (other q l))) sound at.found (active_goes_on at.activity.mode at.active)
+  where
+    other_case : (q : ActivityPath) (b : Bool) → same q p ≡ b → leads_to p q ≡ false → b ≡ false
+    other_case q true e l = absurd (true≢false (sym (leads_own p) ∙ sym (ap (leads_to p) (same_exact q p e)) ∙ l))
+    other_case q false e l = refl
+
+    other : (q : ActivityPath) → leads_to p q ≡ false → same q p ≡ false
+    other q l = other_case q (same q p) refl l

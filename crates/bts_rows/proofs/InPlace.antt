@@ -13,8 +13,8 @@ use Rattle.bts_event.specs.declared.event.Trigger.TheVariants.{Input, Completion
 use Rattle.bts_event.specs.Events.{Events, is_completion, is_completion_of, is_fired_atomic}
 use Rattle.bts_event.proofs.Orders.{IsRising}
 use Rattle.bts_tree.specs.declared.activity.Activity.{Activity}
-use Rattle.bts_tree.specs.Activities.{Activities, changed_at, changed_by, written_at}
-use Rattle.bts_tree.specs.Modes.{is_mode_active}
+use Rattle.bts_tree.specs.Activities.{Activities, changed_at, changed_by, is_complete, written_at}
+use Rattle.bts_tree.specs.Modes.{is_mode_active, is_mode_complete}
 use Rattle.bts_tree.specs.Paths.{parent_of, number_of, is_child_of}
 use Rattle.bts_tree.specs.Processes.{Process, activity_at, edited}
 use Rattle.bts_tree.specs.Soundness.{FitsChildren, FitsParent, IsSoundActivity, IsSoundInFrames, IsSoundTree, IsSoundUnder, children_of, is_event_of_child, is_fired, is_root, needs_event}
@@ -30,6 +30,16 @@ abbrev pub is_childs : Trigger → Bool
 is_childs tr = elim tr [ Input ↦ false | Completion n ↦ true | Timer t ↦ false ]
 
 -- an activity may stand in the place of another: it is sound itself, and is the same to its parent and its children
+pub record StandsFor (a b : Activity) : Type 0 where
+  pub sound : IsSoundActivity b
+  pub name : b.name ≡ a.name
+  pub completion : b.completion ≡ a.completion
+  pub complete : is_complete b ≡ is_complete a
+  pub told : b.told ≡ a.told
+  pub made : b.made ≡ a.made
+  pub events : Keeps is_childs a.pool.events b.pool.events
+
+-- the same, in the same mode
 pub record FitsIn (a b : Activity) : Type 0 where
   pub sound : IsSoundActivity b
   pub name : b.name ≡ a.name
@@ -38,6 +48,9 @@ pub record FitsIn (a b : Activity) : Type 0 where
   pub told : b.told ≡ a.told
   pub made : b.made ≡ a.made
   pub events : Keeps is_childs a.pool.events b.pool.events
+
+stands_for : (a b : Activity) → FitsIn a b → StandsFor a b
+stands_for a b f = record { sound = f.sound; name = f.name; completion = f.completion; complete = ap is_mode_complete f.mode; told = f.told; made = f.made; events = f.events }
 
 -- ---- completion events
 
@@ -116,20 +129,20 @@ event_or true n m x y e f h = refl
 event_or false true m x y e f h = rw e (f h)
 event_or false false m x y e f h = rw e
 
-module _ (t : Activities) (q : ActivityPath) (a b : Activity) (found : lookup q t ≡ Some a) (fits : FitsIn a b) (rise_a : IsRising (keys_of a.pool.events)) where
+module _ (t : Activities) (q : ActivityPath) (a b : Activity) (found : lookup q t ≡ Some a) (fits : StandsFor a b) (rise_a : IsRising (keys_of a.pool.events)) where
   abbrev after : Activities
   after = written_at q b t
 
   -- another activity, or the one itself, and its parent
-  parent_still : (p : ActivityPath) (x y : Activity) → y.name ≡ x.name → y.completion ≡ x.completion → y.mode ≡ x.mode → y.told ≡ x.told → FitsParent t (p, x) → FitsParent after (p, y)
-  parent_still p x y name completion mode told f = record {
+  parent_still : (p : ActivityPath) (x y : Activity) → y.name ≡ x.name → y.completion ≡ x.completion → is_complete y ≡ is_complete x → y.told ≡ x.told → FitsParent t (p, x) → FitsParent after (p, y)
+  parent_still p x y name completion complete told f = record {
     parent = parent_or (is_root p) _ _ (there_written q b a t (parent_of p) found) f.parent;
     number = parent_or (is_root p) _ _
         (passes_written q b a made made t p found (λ z h. h) (λ h. subst (λ m. (nat_le 1 (number_of p) && nat_le (number_of p) m) ≡ true) (sym fits.made) h)) f.number;
     name = ap (λ n. same n root_name) name ∙ f.name;
     completion = ap is_none completion ∙ f.completion;
     told = subst (λ z. (not (is_root p) || z) ≡ true) (sym told) f.told;
-    event = event_or (is_root p) (needs_event x) (needs_event y) _ _ (needs_same mode told)
+    event = event_or (is_root p) (needs_event x) (needs_event y) _ _ (needs_same complete told)
         (passes_written q b a (waits_in p x.completion) (waits_in p y.completion) t p found
         (λ z h. subst (λ c. waits_in p c z ≡ true) (sym completion) h)
         (λ h. subst (λ c. waits_in p c b ≡ true) (sym completion) (waits_still a b rise_a (fits.sound).pool.events.ordered fits.events p x.completion h)))
@@ -140,8 +153,8 @@ module _ (t : Activities) (q : ActivityPath) (a b : Activity) (found : lookup q 
       made : Activity → Bool
       made z = nat_le 1 (number_of p) && nat_le (number_of p) z.made
 
-      needs_same : y.mode ≡ x.mode → y.told ≡ x.told → needs_event y ≡ needs_event x
-      needs_same m d = cc
+      needs_same : is_complete y ≡ is_complete x → y.told ≡ x.told → needs_event y ≡ needs_event x
+      needs_same m d = ap (λ c. not c || not y.told) m ∙ ap (λ d. not (is_complete x) || not d) d
 
   -- ---- and its children
 
@@ -200,12 +213,12 @@ module _ (t : Activities) (q : ActivityPath) (a b : Activity) (found : lookup q 
     root = there_written q b a t [] found s.root;
     activities = all_written q b a (λ x. IsSoundActivity x.1) (λ x. IsSoundActivity x.1) (λ x d h. h) t s.paths_rise found (λ h. fits.sound) s.activities;
     parents = all_written q b a (FitsParent after) (FitsParent t) (λ x d h. parent_still x.0 x.1 x.1 refl refl refl refl h) t s.paths_rise found
-        (λ h. parent_still q a b fits.name fits.completion fits.mode fits.told h) s.parents;
+        (λ h. parent_still q a b fits.name fits.completion fits.complete fits.told h) s.parents;
     children = all_written q b a (FitsChildren after) (FitsChildren t) (λ x d h. children_other x h) t s.paths_rise found children_own s.children;
   }
 
-  pub active_still : map (λ x. x.0) (filter (λ x. is_mode_active x.1.mode) after) ≡ map (λ x. x.0) (filter (λ x. is_mode_active x.1.mode) t)
-  active_still = read_written q b a (λ x. is_mode_active x.1.mode) (λ x. x.0) (ap is_mode_active fits.mode) refl t found
+  active_still : b.mode ≡ a.mode → map (λ x. x.0) (filter (λ x. is_mode_active x.1.mode) after) ≡ map (λ x. x.0) (filter (λ x. is_mode_active x.1.mode) t)
+  active_still mode = read_written q b a (λ x. is_mode_active x.1.mode) (λ x. x.0) (ap is_mode_active mode) refl t found
 
 -- ---- in a process
 
@@ -232,11 +245,12 @@ edited_keeps_soundness frames s q f a sound h fits =
     let at = stands_at frames s q a sound h in
     let changed : option_map (changed_at q f) s.tree ≡ Some (written_at q (f a) at.tree) = ap (option_map (changed_at q f)) at.is_tree ∙ ap (λ o. Some (changed_by q f o at.tree)) at.found in
     let rise = (at.own).pool.events.ordered in
+    let stands = stands_for a (f a) fits in
     record {
-      tree = subst (IsSoundUnder (edited q f s)) (sym changed) (tree_still at.tree q a (f a) at.found fits rise at.sound, at.defined);
+      tree = subst (IsSoundUnder (edited q f s)) (sym changed) (tree_still at.tree q a (f a) at.found stands rise at.sound, at.defined);
       containers = sound.containers;
       active = subst (λ ps. IsTrue (list_all (λ p. list_any (same p) frames) ps && list_all (λ p. list_any (same p) ps) frames))
-          (sym (ap (λ o. keys_of (filter (λ x. is_mode_active x.1.mode) (unwrap_or o []))) changed ∙ active_still at.tree q a (f a) at.found fits rise
+          (sym (ap (λ o. keys_of (filter (λ x. is_mode_active x.1.mode) (unwrap_or o []))) changed ∙ active_still at.tree q a (f a) at.found stands rise fits.mode
           ∙ sym (ap (λ o. keys_of (filter (λ x. is_mode_active x.1.mode) (unwrap_or o []))) at.is_tree)))
           sound.active;
     }

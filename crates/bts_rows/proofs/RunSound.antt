@@ -2,7 +2,6 @@
 use Rattle.std.proofs.Common.{◌≡◌, ℕ, Bool, true, false, cond, ◌&&◌, nat_le, List, [], Option, Some, None, is_some, is_none, refl}
 use Rattle.bts_names.specs.Names.{Name, ActivityPath}
 use Rattle.bts_names.specs.Named.{lookup}
-use Rattle.bts_names.specs.Answer.{Answer}
 use Rattle.bts_names.specs.declared.reply.Resp.TheVariants as resp
 use Rattle.bts_names.specs.declared.reply.Reason.TheVariants as reason
 use Rattle.bts_names.specs.declared.state.Status.TheVariants as status
@@ -27,11 +26,12 @@ use Rattle.bts_tree.specs.Soundness.{IsSoundActivity, IsSoundInFrames}
 use Rattle.bts_rows.specs.declared.held.Held.{Held}
 use Rattle.bts_rows.specs.Targets.{Here, in_request}
 use Rattle.bts_rows.specs.FamilyRows as row
-use Rattle.bts_rows.proofs.ActSound.{LeavesSound, own_sound, sound_edited, sound_for, sound_target, sound_when}
+use Rattle.bts_rows.proofs.ActSound.{own_sound, sound_edited}
 use Rattle.bts_rows.proofs.Completing.{complete_keeps_soundness}
 use Rattle.bts_rows.proofs.Fits.{fits_pool, sound_fire}
 use Rattle.bts_rows.proofs.InPlace.{FitsIn}
 use Rattle.bts_rows.proofs.Keeps.{Keeps, is_owned, is_picked, keeps_same}
+use Rattle.bts_rows.proofs.Leaving.{Leaves, leaves_for, leaves_target, leaves_when}
 use Rattle.bts_rows.proofs.PoolKeeps.{keeps_firing}
 
 -- ---- an input event that a program may fire
@@ -88,49 +88,49 @@ fits_suspended to a s =
 -- ---- the rows
 
 module _ (frames : List ActivityPath) (s : Process) (sound : IsSoundInFrames frames s) where
-  abbrev pub Leaves : Answer Process → Type 0
-  Leaves = LeavesSound frames s sound
+  abbrev Sound : Process → Type 0
+  Sound = IsSoundInFrames frames
 
-  pub run_sound : (here : Here) (depth : ℕ) (target : Target) (opens : Bool) (event : Option Name) → Leaves (row.run_row here depth s target opens event)
+  pub run_sound : (here : Here) (depth : ℕ) (target : Target) (opens : Bool) (event : Option Name) → Leaves Sound s (row.run_row here depth s target opens event)
   run_sound here depth target opens event =
-      sound_target frames s sound here target _ λ p a h.
-      sound_when frames s sound resp.Activityerr reason.Mode (is_complete a) _ λ m.
-      sound_when frames s sound resp.Activityerr reason.Started (is_initial a && has_entries a) _ λ st.
-      sound_when frames s sound resp.Invreq reason.InputGiven (is_initial a && is_some event) _ λ g.
-      sound_when frames s sound resp.Invreq reason.InputMissing (is_dormant a && is_none event) _ λ n.
-      sound_for frames s sound resp.Eventerr (row.input_refusal a.pool.events event) _ λ i.
-      sound_when frames s sound resp.Invreq reason.Depth (opens && nat_le row.frame_limit depth) _ λ d.
+      leaves_target Sound s sound here target _ λ p a h.
+      leaves_when Sound s sound resp.Activityerr reason.Mode (is_complete a) _ λ m.
+      leaves_when Sound s sound resp.Activityerr reason.Started (is_initial a && has_entries a) _ λ st.
+      leaves_when Sound s sound resp.Invreq reason.InputGiven (is_initial a && is_some event) _ λ g.
+      leaves_when Sound s sound resp.Invreq reason.InputMissing (is_dormant a && is_none event) _ λ n.
+      leaves_for Sound s sound resp.Eventerr (row.input_refusal a.pool.events event) _ λ i.
+      leaves_when Sound s sound resp.Invreq reason.Depth (opens && nat_le row.frame_limit depth) _ λ d.
       let own = own_sound frames s sound p a h in
       sound_edited frames s sound p (row.with_signal event) a h (fits_pool a own (row.signalled event a.pool) (signal_sound event a.pool own.pool i) (signal_keeps event a.pool i))
 
-  pub suspension_sound : (to : Bool) (here : Here) (target : Target) → Leaves (row.suspension_row to here s target)
+  pub suspension_sound : (to : Bool) (here : Here) (target : Target) → Leaves Sound s (row.suspension_row to here s target)
   suspension_sound to here target =
-      sound_target frames s sound here target _ λ p a h.
-      sound_when frames s sound resp.Activityerr reason.Mode (is_complete a) _ λ m.
+      leaves_target Sound s sound here target _ λ p a h.
+      leaves_when Sound s sound resp.Activityerr reason.Mode (is_complete a) _ λ m.
       sound_edited frames s sound p (λ b. record b { suspended = to }) a h (fits_suspended to a (own_sound frames s sound p a h))
 
 -- ---- in a request's first frame, where no other frame is open
 
 module _ (s : Process) (sound : IsSoundInFrames [] s) where
   -- a child isn't checked there, and no other target is changed
-  check_sound : (h : Held) (target : Target) → Leaves [] s sound (row.check_row (in_request h) s target)
+  check_sound : (h : Held) (target : Target) → Leaves (IsSoundInFrames []) s (row.check_row (in_request h) s target)
   check_sound h (of.Activity a) = sound
-  check_sound h of.AcqProcess = sound_target [] s sound (in_request h) of.AcqProcess _ λ p a e. sound
-  check_sound h of.AcqActivity = sound_target [] s sound (in_request h) of.AcqActivity _ λ p a e. sound
+  check_sound h of.AcqProcess = leaves_target (IsSoundInFrames []) s sound (in_request h) of.AcqProcess _ λ p a e. sound
+  check_sound h of.AcqActivity = leaves_target (IsSoundInFrames []) s sound (in_request h) of.AcqActivity _ λ p a e. sound
 
-  cancel_sound : (h : Held) (target : Target) → Leaves [] s sound (row.cancel_row (in_request h) s target)
+  cancel_sound : (h : Held) (target : Target) → Leaves (IsSoundInFrames []) s (row.cancel_row (in_request h) s target)
   cancel_sound h target =
-      sound_target [] s sound (in_request h) target _ λ p a there.
-      sound_when [] s sound resp.Activityerr reason.Mode (is_complete a) _ λ running.
+      leaves_target (IsSoundInFrames []) s sound (in_request h) target _ λ p a there.
+      leaves_when (IsSoundInFrames []) s sound resp.Activityerr reason.Mode (is_complete a) _ λ running.
       complete_keeps_soundness [] p status.Forced None s a refl refl (λ q open_there. cc) sound there running
 
-  reset_sound : (h : Held) (target : Target) → row.resets (command.Reset target) ≡ false → Leaves [] s sound (row.reset_row (in_request h) s target)
+  reset_sound : (h : Held) (target : Target) → row.resets (command.Reset target) ≡ false → Leaves (IsSoundInFrames []) s (row.reset_row (in_request h) s target)
   reset_sound h (of.Activity a) e = sound
   reset_sound h of.AcqProcess e = cc
   reset_sound h of.AcqActivity e = cc
 
   -- each of commands 5 to 13, but for RESET of what is acquired
-  pub family_row_sound : (h : Held) (depth : ℕ) (c : Command) → row.resets c ≡ false → Leaves [] s sound (row.family_row (in_request h) depth s c)
+  pub family_row_sound : (h : Held) (depth : ℕ) (c : Command) → row.resets c ≡ false → Leaves (IsSoundInFrames []) s (row.family_row (in_request h) depth s c)
   unfolding row.family_row
   family_row_sound h depth (command.DefineActivity a e transid program) l = sound
   family_row_sound h depth (command.DeleteActivity a) l = sound

@@ -1,5 +1,5 @@
 // What holds of every command, in whatever frame it stands.
-ghost use Rattle.std.specs.Prelude.{◌≡◌, ℕ, List, [], IsSome, true, false};
+ghost use Rattle.std.specs.Prelude.{◌≡◌, ℕ, ◌+◌, List, [], IsSome, true, false};
 ghost use Rattle.std.specs.List.Sorted.{IsStrictlySortedBy};
 ghost use Rattle.std.specs.Map.{keys_of};
 ghost use Rattle.std.specs.Ordering.{nat_cmp};
@@ -10,8 +10,9 @@ ghost use Rattle.bts_command.specs.declared.command.Command.{Command};
 ghost use Rattle.bts_tree.specs.Processes.{Process, activities, activity_at};
 ghost use Rattle.bts_tree.specs.Soundness.{IsSoundInFrames};
 ghost use Rattle.bts_rows.specs.ActRows.{act_row};
+ghost use Rattle.bts_rows.specs.Bounds.{is_lone, is_within, makes_more};
 ghost use Rattle.bts_rows.specs.FamilyRows.{family_row, resets};
-ghost use Rattle.bts_rows.specs.Given.{IsGiven};
+ghost use Rattle.bts_command.specs.Given.{IsGiven};
 ghost use Rattle.bts_rows.specs.Replies.{IsProper, is_normal};
 ghost use Rattle.bts_rows.specs.Rows.{act_at, answer, family_at, request_in};
 ghost use Rattle.bts_rows.specs.Targets.{Here, in_activity, in_request};
@@ -46,6 +47,27 @@ pub fn commands_of_one_activity_keep_soundness()
 pub fn commands_of_a_request_keep_soundness()
     ensures { (held : Held) (depth now : ℕ) (s : Process) (c : Command) → IsGiven c → resets c ≡ false
         → IsSoundInFrames [] s → IsSoundInFrames [] (left_by (s, held) (request_in held depth now s c)).0 }
+{}
+
+/// By one command the generation of a process, and the last entry number of each of its activities, rise by one at
+/// most: by a command on containers, events and timers in the frame of an activity, and in a request's first frame by
+/// each but RESET of what is acquired.
+pub fn numbers_rise_by_one()
+    ensures frame { (frames : List ActivityPath) (path : ActivityPath) (now n : ℕ) (s : Process) (c : Command)
+        → IsSoundInFrames frames s → is_within n s ≡ true → is_within (n + 1) (left_by s (act_at path now s c)) ≡ true }
+    ensures request { (frames : List ActivityPath) (held : Held) (depth now n : ℕ) (s : Process) (c : Command)
+        → resets c ≡ false → IsSoundInFrames frames s → is_within n s ≡ true
+        → is_within (n + 1) (left_by (s, held) (request_in held depth now s c)).0 ≡ true }
+{}
+
+/// Only DEFINE ACTIVITY and DEFINE TIMER make children and timers, and only in an activity's frame: each other one of
+/// those commands leaves a process whose root is its only activity, and has no timer, so.
+pub fn only_definitions_make_more()
+    ensures frame { (frames : List ActivityPath) (path : ActivityPath) (now : ℕ) (s : Process) (c : Command)
+        → makes_more c ≡ false → IsSoundInFrames frames s → is_lone s ≡ true → is_lone (left_by s (act_at path now s c)) ≡ true }
+    ensures request { (frames : List ActivityPath) (held : Held) (depth now : ℕ) (s : Process) (c : Command)
+        → resets c ≡ false → IsSoundInFrames frames s → is_lone s ≡ true
+        → is_lone (left_by (s, held) (request_in held depth now s c)).0 ≡ true }
 {}
 
 /// In an activity's frame a command is read on the part of the process at its path, and the part is joined. That is

@@ -12,5 +12,6 @@ mod laws;
 pub use held::Held;
 pub use laws::{
     a_frame_reads_its_part, a_refused_command_changes_nothing,
-    commands_of_a_request_keep_soundness, commands_of_one_activity_keep_soundness, replies_say_why,
+    commands_of_a_request_keep_soundness, commands_of_one_activity_keep_soundness,
+    numbers_rise_by_one, only_definitions_make_more, replies_say_why,
 };

@@ -11,8 +11,7 @@ use Rattle.std.proofs.lemmas.Map.Lookups.{exact_bytes}
 use Rattle.std.proofs.lemmas.List.Folds.{list_any-append}
 use Rattle.bts_names.specs.Names.{Bytes, Name, same}
 use Rattle.bts_forms.specs.declared.line.Place.{Place}
-use Rattle.bts_script.specs.Built.{is_built}
-use Rattle.bts_script.specs.Blocks.{is_skipped, numbered, labels_of}
+use Rattle.bts_script.specs.Blocks.{is_skipped, numbered, labels_of, by_table}
 use Rattle.bts_script.specs.Lines.{lines_of}
 use Rattle.bts_script.specs.Begun.{HaveSame, label_at}
 
@@ -50,11 +49,11 @@ more_same xs ys zs h q = rw (list_any-append (same q) xs zs, list_any-append (sa
 -- ---- the labels of lines
 
 abbrev labels : Place → List Bytes → List Name
-labels p texts = labels_of is_built p (numbered 0 texts)
+labels p texts = labels_of by_table p (numbered 0 texts)
 
 renumbered_on : (p : Place) (m n : ℕ) (line : Bytes) (lines : List Bytes) (t : Bool) → is_skipped line ≡ t
-    → labels_of is_built p (numbered (m + 1) lines) ≡ labels_of is_built p (numbered (n + 1) lines)
-    → labels_of is_built p (numbered m (line ∷ lines)) ≡ labels_of is_built p (numbered n (line ∷ lines))
+    → labels_of by_table p (numbered (m + 1) lines) ≡ labels_of by_table p (numbered (n + 1) lines)
+    → labels_of by_table p (numbered m (line ∷ lines)) ≡ labels_of by_table p (numbered n (line ∷ lines))
 renumbered_on p m n line lines true h others = rw h others
 renumbered_on p m n line lines false h others = rw (h, others) refl
 
@@ -62,7 +61,7 @@ one_behind : (label : Option Name) (others : List Name) → cons_option label []
 one_behind None others = refl
 one_behind (Some l) others = refl
 
-pub renumbered : (p : Place) (m n : ℕ) (lines : List Bytes) → labels_of is_built p (numbered m lines) ≡ labels_of is_built p (numbered n lines)
+pub renumbered : (p : Place) (m n : ℕ) (lines : List Bytes) → labels_of by_table p (numbered m lines) ≡ labels_of by_table p (numbered n lines)
 renumbered p m n [] = refl
 renumbered p m n (line ∷ lines) = renumbered_on p m n line lines (is_skipped line) refl (renumbered p (m + 1) (n + 1) lines)
 

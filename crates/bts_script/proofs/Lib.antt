@@ -2,4 +2,4 @@ mod Ends
 pub mod FirstLines
 mod Labels
 mod Statements
-mod Tables
+pub mod Today

@@ -8,8 +8,7 @@ use Rattle.bts_forms.specs.declared.statement.Statement.{Statement}
 use Rattle.bts_forms.specs.declared.line.Word.{Word}
 use Rattle.bts_forms.specs.declared.line.Place.{Place}
 use Rattle.bts_script.specs.declared.blocks.Block.{Block}
-use Rattle.bts_script.specs.Built.{is_built}
-use Rattle.bts_script.specs.Blocks.{Numbered, Refusal, IsRefusedFor, GivesWhatIsSaid, numbered, labels_of, block_of, refused_at, is_skipped, is_in, is_outside, label_of, goal_of, labels_by, with_labels, put_first, then_others, statement_in, statements}
+use Rattle.bts_script.specs.Blocks.{Numbered, Refusal, IsRefusedFor, GivesWhatIsSaid, numbered, labels_of, block_of, refused_at, is_skipped, is_in, is_outside, label_of, goal_of, labels_by, with_labels, put_first, then_others, statement_in, statements, by_table}
 use Rattle.bts_forms.specs.declared.line.ScriptError.{ScriptError}
 use Rattle.bts_script.specs.Lines.{lines_of}
 use Rattle.bts_script.specs.Begun.{HaveSame, IsAdded, line_first, put_front, said_with}
@@ -33,12 +32,12 @@ next_same : (said : Result Statement Word) (n : ℕ) (f g : Statement → Result
 next_same (Err why) n f g h = refl
 next_same (Ok s) n f g h = ap (put_first s) (h s)
 
-pub statements_same : (p : Place) (b d a e : List Name) (lines : List Numbered) → HaveSame b d → HaveSame a e → statements is_built p b a lines ≡ statements is_built p d e lines
+pub statements_same : (p : Place) (b d a e : List Name) (lines : List Numbered) → HaveSame b d → HaveSame a e → statements by_table p b a lines ≡ statements by_table p d e lines
 unfolding statements
 statements_same p b d a e [] before all = refl
 statements_same p b d a e (l ∷ ls) before all =
-    rw (with_same b d a e (statement_in is_built p l.1) before all)
-    (next_same (with_labels d e (statement_in is_built p l.1)) l.0 (λ s. statements is_built p (b ++ labels_by s) a ls) (λ s. statements is_built p (d ++ labels_by s) e ls)
+    rw (with_same b d a e (statement_in by_table p l.1) before all)
+    (next_same (with_labels d e (statement_in by_table p l.1)) l.0 (λ s. statements by_table p (b ++ labels_by s) a ls) (λ s. statements by_table p (d ++ labels_by s) e ls)
     (λ s. statements_same p (b ++ labels_by s) (d ++ labels_by s) a e ls (more_same b d (labels_by s) before) all))
 
 -- ---- one line more
@@ -47,26 +46,26 @@ one_behind : (ss : List Statement) (s : Statement) (others : Result (List Statem
 one_behind ss s (Err r) = refl
 one_behind ss s (Ok others) = ap (λ (l : List Statement). Ok l) (append_assoc ss (s ∷ []) others)
 
-said_first : (p : Place) (before all : List Name) (n : ℕ) (text : Bytes) (others : List Numbered) (s : Statement) → is_skipped text ≡ false → with_labels before all (statement_in is_built p text) ≡ Ok s
-    → statements is_built p before all (line_first n text others) ≡ put_first s (statements is_built p (before ++ labels_by s) all others)
+said_first : (p : Place) (before all : List Name) (n : ℕ) (text : Bytes) (others : List Numbered) (s : Statement) → is_skipped text ≡ false → with_labels before all (statement_in by_table p text) ≡ Ok s
+    → statements by_table p before all (line_first n text others) ≡ put_first s (statements by_table p (before ++ labels_by s) all others)
 unfolding statements
 said_first p before all n text others s h said = rw (h, said) refl
 
-pub refused_first : (b : Block) (n : ℕ) (text : Bytes) (others : List Numbered) (why : Word) → is_skipped text ≡ false → with_labels b.before.keys b.labels.keys (statement_in is_built b.place text) ≡ Err why
+pub refused_first : (b : Block) (n : ℕ) (text : Bytes) (others : List Numbered) (why : Word) → is_skipped text ≡ false → with_labels b.before.keys b.labels.keys (statement_in by_table b.place text) ≡ Err why
     → said_with b (line_first n text others) ≡ refused_at n why
 unfolding statements
 refused_first b n text others why h said = rw (h, said) refl
 
 same_as : (p q : Place) (before all1 all2 : List Name) (script1 script2 : List Statement) (others : List Numbered) → p ≡ q → all1 ≡ all2 → script1 ≡ script2
-    → put_front script1 (statements is_built p before all1 others) ≡ put_front script2 (statements is_built q before all2 others)
+    → put_front script1 (statements by_table p before all1 others) ≡ put_front script2 (statements by_table q before all2 others)
 same_as p q before all1 all2 script1 script2 others e f g = rw (e, f, g) refl
 
-pub added : (old new : Block) (n : ℕ) (text : Bytes) (others : List Numbered) (s : Statement) → is_skipped text ≡ false → with_labels old.before.keys old.labels.keys (statement_in is_built old.place text) ≡ Ok s
+pub added : (old new : Block) (n : ℕ) (text : Bytes) (others : List Numbered) (s : Statement) → is_skipped text ≡ false → with_labels old.before.keys old.labels.keys (statement_in by_table old.place text) ≡ Ok s
     → IsAdded old new s → said_with new others ≡ said_with old (line_first n text others)
 added old new n text others s h said is =
     same_as new.place old.place new.before.keys new.labels.keys old.labels.keys new.script (old.script ++ s ∷ []) others is.place is.labels is.script
     ∙ ap (put_front (old.script ++ s ∷ [])) (statements_same old.place new.before.keys (old.before.keys ++ labels_by s) old.labels.keys old.labels.keys others is.before (λ q. refl))
-    ∙ one_behind old.script s (statements is_built old.place (old.before.keys ++ labels_by s) old.labels.keys others)
+    ∙ one_behind old.script s (statements by_table old.place (old.before.keys ++ labels_by s) old.labels.keys others)
     ∙ ap (put_front old.script) (sym (said_first old.place old.before.keys old.labels.keys n text others s h said))
 
 -- ---- a whole block
@@ -75,12 +74,12 @@ put_nothing : (said : Result (List Statement) Refusal) → put_front [] said ≡
 put_nothing (Err r) = refl
 put_nothing (Ok ss) = refl
 
-pub begun : (p : Place) (before labels : List Name) (script : List Statement) (first : ℕ) (lines : List Bytes) → before ≡ [] → script ≡ [] → HaveSame labels (labels_of is_built p (numbered 0 lines))
-    → put_front script (statements is_built p before labels (numbered first lines)) ≡ block_of p first lines
+pub begun : (p : Place) (before labels : List Name) (script : List Statement) (first : ℕ) (lines : List Bytes) → before ≡ [] → script ≡ [] → HaveSame labels (labels_of by_table p (numbered 0 lines))
+    → put_front script (statements by_table p before labels (numbered first lines)) ≡ block_of p first lines
 begun p before labels script first lines b s h =
     rw (b, s)
-    (put_nothing (statements is_built p [] labels (numbered first lines))
-    ∙ statements_same p [] [] labels (labels_of is_built p (numbered first lines)) (numbered first lines) (λ q. refl)
+    (put_nothing (statements by_table p [] labels (numbered first lines))
+    ∙ statements_same p [] [] labels (labels_of by_table p (numbered first lines)) (numbered first lines) (λ q. refl)
     (λ q. h q ∙ ap (list_any (same q)) (renumbered p 0 first lines)))
 
 numbered_on : (n : ℕ) (line : Bytes) (lines : List Bytes) (t : Bool) → is_skipped line ≡ t → numbered n (line ∷ lines) ≡ line_first n line (numbered (n + 1) lines)

@@ -5,8 +5,7 @@ use Rattle.bts_names.specs.Names.{Bytes, Name, same}
 use Rattle.bts_forms.specs.declared.statement.Statement.{Statement}
 use Rattle.bts_forms.specs.declared.line.Place.{Place}
 use Rattle.bts_script.specs.declared.blocks.Block.{Block}
-use Rattle.bts_script.specs.Built.{is_built}
-use Rattle.bts_script.specs.Blocks.{Numbered, Refusal, is_skipped, statement_in, label_said, labels_by, statements}
+use Rattle.bts_script.specs.Blocks.{Numbered, Refusal, is_skipped, statement_in, label_said, labels_by, statements, by_table}
 
 -- whether the same names are in two lists
 abbrev pub HaveSame : List Name → List Name → Type 0
@@ -18,7 +17,7 @@ line_first n text others = cond (is_skipped text) others ((n, text) ∷ others)
 
 -- the label that a line is
 abbrev pub label_at : Place → Bytes → Option Name
-label_at p text = cond (is_skipped text) None (label_said (statement_in is_built p text))
+label_at p text = cond (is_skipped text) None (label_said (statement_in by_table p text))
 
 -- statements in front of those of other lines
 abbrev pub put_front : List Statement → Result (List Statement) Refusal → Result (List Statement) Refusal
@@ -27,7 +26,7 @@ put_front ss (Ok others) = Ok (ss ++ others)
 
 -- what a block says with these lines behind those that were read
 abbrev pub said_with : Block → List Numbered → Result (List Statement) Refusal
-said_with b lines = put_front b.script (statements is_built b.place b.before.keys b.labels.keys lines)
+said_with b lines = put_front b.script (statements by_table b.place b.before.keys b.labels.keys lines)
 
 -- a block with one statement more
 pub record IsAdded (old new : Block) (s : Statement) : Type 0 where

@@ -17,7 +17,6 @@ use Rattle.bts_forms.specs.declared.line.ScriptError.TheVariants as error
 use Rattle.bts_forms.specs.declared.line.Setting.{Setting}
 use Rattle.bts_forms.specs.declared.line.Setting.TheVariants as setting
 use Rattle.bts_forms.specs.Forms.{Saying, forms, form_of}
-use Rattle.bts_script.specs.Built.{is_built}
 
 -- ---- one line
 
@@ -43,20 +42,24 @@ abbrev pub stop_where : {A : Type 0} → Bool → Word → Result A Word → Res
 stop_where true why rest = Err why
 stop_where false why rest = rest
 
--- the lines that are let through
+-- which lines are let through, by whether the table of the forms lets them through
 abbrev pub Through : Type 0
-Through = Bytes → Bool
+Through = Bool → Bool
 
-abbrev pub said_at : Through → Option Place → Bytes → Option Saying → Result Line Word
-said_at through at text None = Err word.Word
-said_at through at text (Some x) = stop_where (not (through text)) word.NotYet (stop_where (not (belongs_at x.0 at)) word.Place x.1)
+-- those of the table
+abbrev pub by_table : Through
+by_table passes = passes
+
+abbrev pub said_at : Through → Option Place → Option Saying → Result Line Word
+said_at through at None = Err word.Word
+said_at through at (Some x) = stop_where (not (through x.1)) word.NotYet (stop_where (not (belongs_at x.0 at)) word.Place x.2)
 
 abbrev pub is_printable : ℕ → Bool
 is_printable b = is_between 32 126 b
 
 -- what a line says in such a block, or outside of one, or why it is refused
 abbrev pub line_in : Through → Option Place → Bytes → Result Line Word
-line_in through at text = stop_where (not (list_all is_printable text)) word.Character (said_at through at text (form_of forms (without_spaces text)))
+line_in through at text = stop_where (not (list_all is_printable text)) word.Character (said_at through at (form_of forms (without_spaces text)))
 
 -- whether a line is the END of a block
 abbrev pub is_end : Result Line Word → Bool
@@ -149,7 +152,7 @@ abbrev pub block_in : Through → Place → ℕ → List Bytes → Result (List 
 block_in through p first texts = script_of through p (numbered first texts)
 
 abbrev pub block_of : Place → ℕ → List Bytes → Result (List Statement) Refusal
-block_of = block_in is_built
+block_of = block_in by_table
 
 -- ---- what a reader answers
 

@@ -1,4 +1,3 @@
 pub mod Begun
 pub mod Blocks
-pub mod Built
 pub mod Lines

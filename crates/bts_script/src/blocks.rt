@@ -1,10 +1,10 @@
 // The script of a block.
 ghost use Rattle.std.specs.Prelude.{◌≡◌, ◌+◌, ◌≤◌, ◌++◌, ◌∷◌, [], List, length, IfOk, IfErr, OnOk};
-ghost use Rattle.std.specs.List.{cons_option};
+ghost use Rattle.std.specs.List.{cons_option, AllByRecursion};
 ghost use Rattle.std.specs.Option.{option_copied};
+ghost use Rattle.bts_forms.specs.Today.{IsOfToday};
 ghost use Rattle.bts_script.specs.Lines.{lines_of};
-ghost use Rattle.bts_script.specs.Built.{is_built};
-ghost use Rattle.bts_script.specs.Blocks.{Numbered, is_in, is_outside, label_of, goal_of, label_said, labels_by, labels_of, with_labels, statement_in, numbered, block_of, IsRefusedFor, GivesWhatIsSaid};
+ghost use Rattle.bts_script.specs.Blocks.{Numbered, is_in, is_outside, label_of, goal_of, label_said, labels_by, labels_of, with_labels, statement_in, numbered, block_of, IsRefusedFor, GivesWhatIsSaid, by_table};
 ghost use Rattle.bts_script.specs.Begun.{HaveSame, IsAdded, label_at, line_first, said_with};
 
 use crate::{is_skipped, next_line, read_line};
@@ -85,7 +85,7 @@ fn statement_in(
     place: Place,
     text: &[u8],
 ) -> Result<Result<Statement, Word>, NoMemory>
-    ensures { IfOk result (λ said. said ≡ statement_in is_built place text.now) }
+    ensures { IfOk result (λ said. said ≡ statement_in by_table place text.now) }
 {
     match read_line(alloc, Some(place), text)? {
         Ok(Line::Statement(statement)) => Ok(Ok(statement)),
@@ -126,7 +126,7 @@ fn add(labels: &mut BTreeSet<Name16>, label: Option<Name16>) -> Result<(), NoMem
 
 /// The labels of all lines of a block.
 fn labels_of(alloc: Global, place: Place, text: &[u8]) -> Result<BTreeSet<Name16>, NoMemory>
-    ensures { IfOk result (λ labels. HaveSame labels.keys (labels_of is_built place (numbered 0 (lines_of text.now)))) }
+    ensures { IfOk result (λ labels. HaveSame labels.keys (labels_of by_table place (numbered 0 (lines_of text.now)))) }
 {
     let mut labels = BTreeSet::new(alloc);
     let mut rest = text;
@@ -180,7 +180,8 @@ pub fn read_block(
     place: Place,
 ) -> Result<Script, ScriptError>
     requires { first + length (lines_of text.now) ≤ 4294967295 }
-    ensures { GivesWhatIsSaid result (block_of place first (lines_of text.now)) }
+    ensures said { GivesWhatIsSaid result (block_of place first (lines_of text.now)) }
+    ensures today { IfOk result (λ script. AllByRecursion IsOfToday script) }
 {
     let mut block = Block {
         place,

@@ -10,8 +10,7 @@ use Rattle.bts_forms.specs.declared.line.Word.{Word}
 use Rattle.bts_forms.specs.declared.line.Word.TheVariants as word
 use Rattle.bts_forms.specs.declared.line.Place.{Place}
 use Rattle.bts_forms.specs.declared.line.Place.TheVariants as place
-use Rattle.bts_script.specs.Built.{is_built}
-use Rattle.bts_script.specs.Blocks.{Numbered, Refusal, Through, ends_block, refused_at, numbered, line_in, script_of}
+use Rattle.bts_script.specs.Blocks.{Numbered, Refusal, Through, ends_block, refused_at, numbered, line_in, script_of, by_table}
 use Rattle.bts_script.specs.Lines.{lines_of}
 use Rattle.bts_session.specs.declared.session.Item.{Item}
 use Rattle.bts_session.specs.declared.session.Item.TheVariants as item
@@ -123,4 +122,4 @@ session_in through bytes = unless_long (nat_lt text_limit (length bytes)) (sessi
 
 -- the same with the lines that are let through
 abbrev pub session_of : Bytes → Result Session Refusal
-session_of = session_in is_built
+session_of = session_in by_table

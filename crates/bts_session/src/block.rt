@@ -1,7 +1,7 @@
 // Where a block ends.
 ghost use Rattle.std.specs.Prelude.{◌≡◌, ◌+◌, ◌≤◌, IfSome};
 ghost use Rattle.std.specs.Option.{option_map};
-ghost use Rattle.bts_script.specs.Built.{is_built};
+ghost use Rattle.bts_script.specs.Blocks.{by_table};
 ghost use Rattle.bts_session.specs.Reading.{FindsEnd, closes_block, line_count};
 
 use bts_script::{ends_block, is_skipped, next_line};
@@ -15,7 +15,7 @@ pub struct Block<'a> {
 }
 
 fn closes_block(line: &[u8]) -> bool
-    ensures { result ≡ closes_block is_built line.now }
+    ensures { result ≡ closes_block by_table line.now }
 {
     !is_skipped(line) && ends_block(line)
 }
@@ -25,7 +25,7 @@ fn closes_block(line: &[u8]) -> bool
 #[tactic(auto, using(crate::proofs::Among::end_found, crate::proofs::Among::no_end, crate::proofs::Among::number_at_end))]
 pub fn find_end(text: &[u8], first: u32) -> Option<Block<'_>>
     requires { first + line_count text.now ≤ 4294967295 }
-    ensures found { FindsEnd is_built first text.now
+    ensures found { FindsEnd by_table first text.now
         (option_map (λ b. (b.body.now, b.end, b.behind.now)) result) }
     ensures number { IfSome result (λ b. b.end ≡ first + line_count b.body.now) }
     ensures lines { IfSome result

@@ -1,10 +1,10 @@
 // Sessions read from their text, in place, from the front to the back.
 ghost use Rattle.std.specs.Prelude.{◌≡◌, ◌+◌, ◌≤◌, ◌∷◌, Ok, IfOk, MatchResult};
 ghost use Rattle.bts_forms.specs.declared.line.ScriptError.TheVariants as error;
-ghost use Rattle.bts_script.specs.Built.{is_built};
-ghost use Rattle.bts_script.specs.Blocks.{GivesWhatIsSaid, IsRefusedFor, at_line};
+ghost use Rattle.bts_script.specs.Blocks.{GivesWhatIsSaid, IsRefusedFor, at_line, by_table};
 ghost use Rattle.bts_script.specs.Lines.{lines_of};
 ghost use Rattle.bts_session.specs.Sessions.{outside, session_from, session_of, with_item};
+ghost use Rattle.bts_session.specs.Today.{IsSessionOfToday};
 ghost use Rattle.bts_session.specs.Reading.{GoesOn, block_first, by_first, line_count, sections_from, with_new_program, with_request};
 
 use crate::block::find_end;
@@ -49,8 +49,8 @@ fn at_line(number: u32, said: Result<Line, Word>) -> Result<Line, ScriptError>
 #[tactic(auto, unfolding(crate::specs::Sessions::outside))]
 fn read_outside(alloc: Global, number: u32, line: &[u8]) -> Result<Line, ScriptError>
     ensures { MatchResult result
-        (λ said. outside is_built line.now ≡ Ok said)
-        (λ e. IsRefusedFor e (at_line number (outside is_built line.now))) }
+        (λ said. outside by_table line.now ≡ Ok said)
+        (λ e. IsRefusedFor e (at_line number (outside by_table line.now))) }
 {
     match read_line(alloc, None, line) {
         Ok(said) => at_line(number, said),
@@ -61,8 +61,8 @@ fn read_outside(alloc: Global, number: u32, line: &[u8]) -> Result<Line, ScriptE
 /// Puts an item behind the others, and goes on.
 fn add_item<'a>(session: &mut Session, item: Item, left: Left<'a>) -> Result<Left<'a>, ScriptError>
     ensures read { GoesOn result
-        (λ x. session_from is_built session.new x.number (lines_of x.text.now))
-        (session_from is_built (with_item session.old item) left.entry.number (lines_of left.entry.text.now)) }
+        (λ x. session_from by_table session.new x.number (lines_of x.text.now))
+        (session_from by_table (with_item session.old item) left.entry.number (lines_of left.entry.text.now)) }
     ensures same { IfOk result (λ x. x ≡ left.entry) }
 {
     match session.items.push(item) {
@@ -80,8 +80,8 @@ fn read_script<'a>(
 ) -> Result<(Script, Left<'a>), ScriptError>
     requires { opening + 1 + line_count text.now ≤ 4294967295 }
     ensures read { GoesOn result
-        (λ x. Ok (x.0, sections_from is_built x.1.number x.1.text.now))
-        (block_first is_built place opening (sections_from is_built (opening + 1) text.now)) }
+        (λ x. Ok (x.0, sections_from by_table x.1.number x.1.text.now))
+        (block_first by_table place opening (sections_from by_table (opening + 1) text.now)) }
     ensures number { IfOk result (λ x. x.1.number + line_count x.1.text.now ≡ opening + 1 + line_count text.now) }
     ensures lines { IfOk result (λ x. line_count x.1.text.now ≤ line_count text.now) }
 {
@@ -108,8 +108,8 @@ fn read_request<'a>(
 ) -> Result<Left<'a>, ScriptError>
     requires { opening + 1 + line_count text.now ≤ 4294967295 }
     ensures read { GoesOn result
-        (λ left. session_from is_built session.new left.number (lines_of left.text.now))
-        (with_request is_built session.old key opening (sections_from is_built (opening + 1) text.now)) }
+        (λ left. session_from by_table session.new left.number (lines_of left.text.now))
+        (with_request by_table session.old key opening (sections_from by_table (opening + 1) text.now)) }
     ensures number { IfOk result (λ left. left.number + line_count left.text.now ≡ opening + 1 + line_count text.now) }
     ensures lines { IfOk result (λ left. line_count left.text.now ≤ line_count text.now) }
 {
@@ -127,8 +127,8 @@ fn read_program<'a>(
 ) -> Result<Left<'a>, ScriptError>
     requires { opening + 1 + line_count text.now ≤ 4294967295 }
     ensures read { GoesOn result
-        (λ left. session_from is_built session.new left.number (lines_of left.text.now))
-        (with_new_program is_built session.old name opening (sections_from is_built (opening + 1) text.now)) }
+        (λ left. session_from by_table session.new left.number (lines_of left.text.now))
+        (with_new_program by_table session.old name opening (sections_from by_table (opening + 1) text.now)) }
     ensures number { IfOk result (λ left. left.number + line_count left.text.now ≡ opening + 1 + line_count text.now) }
     ensures lines { IfOk result (λ left. line_count left.text.now ≤ line_count text.now) }
 {
@@ -153,8 +153,8 @@ fn read_said<'a>(
 ) -> Result<Left<'a>, ScriptError>
     requires { number + 1 + line_count behind.now ≤ 4294967295 }
     ensures read { GoesOn result
-        (λ left. session_from is_built session.new left.number (lines_of left.text.now))
-        (by_first is_built session.old number (Ok said.now) (sections_from is_built (number + 1) behind.now)) }
+        (λ left. session_from by_table session.new left.number (lines_of left.text.now))
+        (by_first by_table session.old number (Ok said.now) (sections_from by_table (number + 1) behind.now)) }
     ensures number { IfOk result (λ left. left.number + line_count left.text.now ≡ number + 1 + line_count behind.now) }
     ensures lines { IfOk result (λ left. line_count left.text.now ≤ line_count behind.now) }
 {
@@ -198,8 +198,8 @@ fn read_next<'a>(
 ) -> Result<Left<'a>, ScriptError>
     requires { number + 1 + line_count behind.now ≤ 4294967295 }
     ensures read { GoesOn result
-        (λ left. session_from is_built session.new left.number (lines_of left.text.now))
-        (session_from is_built session.old number (line.now ∷ lines_of behind.now)) }
+        (λ left. session_from by_table session.new left.number (lines_of left.text.now))
+        (session_from by_table session.old number (line.now ∷ lines_of behind.now)) }
     ensures number { IfOk result (λ left. left.number + line_count left.text.now ≡ number + 1 + line_count behind.now) }
     ensures lines { IfOk result (λ left. line_count left.text.now ≤ line_count behind.now) }
 {
@@ -220,9 +220,11 @@ fn read_next<'a>(
 
 /// The session that bytes say. Syntax comes exactly where they are none, with the first bad line, or with
 /// line 0 where they are more than 16,777,216. It reads the bytes where they lie, in time that grows with
-/// their number but for the look-ups of labels and programs.
+/// their number but for the look-ups of labels and programs. A session holds items and statements of today
+/// alone.
 pub fn read_session(alloc: Global, bytes: &[u8]) -> Result<Session, ScriptError>
-    ensures { GivesWhatIsSaid result (session_of bytes.now) }
+    ensures said { GivesWhatIsSaid result (session_of bytes.now) }
+    ensures today { IfOk result (λ session. IsSessionOfToday session) }
 {
     if bytes.len() > TEXT_LIMIT {
         return Err(refused(0, Word::Long));

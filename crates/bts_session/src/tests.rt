@@ -3,8 +3,8 @@ mod bad_lines;
 
 use crate::{Item, Session, read_session};
 use bts_command::{Command, Spot, Target};
-use bts_names::{Blob, Key, Name, NoMemory};
-use bts_script::{Given, Script, ScriptError, Statement, Word};
+use bts_names::{Blob, Key, Name, NoMemory, Resp};
+use bts_script::{Cond, Given, Script, ScriptError, Statement, Word};
 use std::alloc::Global;
 use std::test::Fail;
 
@@ -81,6 +81,74 @@ fn sessions_are_read(rt: HostRuntime) -> Result<(), Fail> {
             "{text}"
         );
     }
+    Ok(())
+}
+
+/// Programs are no items, and SETTLE is one.
+#[test]
+fn sessions_with_programs_are_read(rt: HostRuntime) -> Result<(), Fail> {
+    let table = [
+        ("SETTLE", 1, 0),
+        ("SETTLE\n SETTLE ", 2, 0),
+        ("PROGRAM A\nEND", 0, 0),
+        ("PROGRAM A\nRETURN ENDACTIVITY\nEND\nPROGRAM B\nEND", 0, 0),
+        (
+            "PROGRAM A\nLABEL L\nGOTO L\nEND\nREQUEST T P\nLABEL L\nWHEN FIRED GOTO L\nEND",
+            1,
+            2,
+        ),
+        (
+            "REQUEST T P\nDEFINE PROCESS TRANSID(T1) PROGRAM(A)\nRUN ACQPROCESS ASYNCHRONOUS\nEND\nPROGRAM A\nRETURN\nEND\nSETTLE",
+            2,
+            2,
+        ),
+        (
+            "REQUEST T P\nACQUIRE PROCESS\nPURGE ACQPROCESS\nROLLBACK\nEND",
+            1,
+            3,
+        ),
+        (
+            "REQUEST T P\nPUT CONTAINER(C) FROM(LAST)\nGET CONTAINER(C) PROCESS\nDELETE CONTAINER(C) ACQACTIVITY\nEND",
+            1,
+            3,
+        ),
+    ];
+    for (text, items, statements) in table {
+        assert!(rt;
+            counts(rt.alloc(), text) == Some((items, statements)),
+            "{text}"
+        );
+    }
+    Ok(())
+}
+
+/// The script that retrieves an event, and goes to its end where there is none.
+fn retrieving(alloc: Global) -> Result<Script, Fail> {
+    let label = Name::read(b"DONE")?;
+    let mut script = Script::new(alloc);
+    script.push(Statement::Command(Command::RetrieveReattach))?;
+    script.push(Statement::When {
+        cond: Cond::Resp(Resp::End),
+        label,
+    })?;
+    script.push(Statement::Put {
+        container: Name::read(b"C")?,
+        spot: Spot::Own,
+        given: Given::Last,
+    })?;
+    script.push(Statement::Label(label))?;
+    script.push(Statement::Command(Command::Return { end_activity: true }))?;
+    Ok(script)
+}
+
+#[test]
+fn a_program_is_read_as_it_stands(rt: HostRuntime) -> Result<(), Fail> {
+    let text =
+        "PROGRAM A\nRETRIEVE REATTACH EVENT\n WHEN  RESP(END)  GOTO DONE\nPUT CONTAINER(C) FROM(LAST)\nLABEL DONE\nRETURN ENDACTIVITY\nEND";
+    let session = read_session(rt.alloc(), text.as_bytes())?;
+    let wanted = retrieving(rt.alloc())?;
+    assert!(rt; session.programs.get(Name::read(b"A")?) == Some(&wanted));
+    assert!(rt; session.items.is_empty());
     Ok(())
 }
 

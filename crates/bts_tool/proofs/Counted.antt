@@ -9,8 +9,7 @@ use Rattle.bts_forms.specs.declared.line.Place.TheVariants as place
 use Rattle.bts_forms.specs.declared.line.Word.{Word}
 use Rattle.bts_forms.specs.declared.line.Word.TheVariants as word
 use Rattle.bts_forms.specs.declared.statement.Statement.{Statement}
-use Rattle.bts_script.specs.Built.{is_built}
-use Rattle.bts_script.specs.Blocks.{Numbered, Refusal, Through, ends_block, is_skipped, numbered, refused_at}
+use Rattle.bts_script.specs.Blocks.{Numbered, Refusal, Through, by_table, ends_block, is_skipped, numbered, refused_at}
 use Rattle.bts_script.specs.Lines.{lines_of}
 use Rattle.bts_script.proofs.FirstLines.{few_lines}
 use Rattle.bts_session.proofs.Sectioning.{numbered_skipped, numbered_kept}
@@ -101,12 +100,12 @@ module _ (through : Through) where
       = numbered_by (is_skipped text) first (length texts) text texts refl (numbered_most texts (first + 1)) in
       omega arith
 
-most_of_text : (bytes : Bytes) (long : Bool) → nat_lt text_limit (length bytes) ≡ long → AtMost text_limit (unless_long long (session_from is_built nothing 1 (lines_of bytes)))
+most_of_text : (bytes : Bytes) (long : Bool) → nat_lt text_limit (length bytes) ≡ long → AtMost text_limit (unless_long long (session_from by_table nothing 1 (lines_of bytes)))
 most_of_text bytes true e = tt
 most_of_text bytes false e =
     let short : length bytes ≤ text_limit = ltb-false text_limit (length bytes) e in
-    sections_most is_built (sections_of is_built (numbered 1 (lines_of bytes))) text_limit nothing
-    (omega (arith, sectioned_most is_built (numbered 1 (lines_of bytes)), numbered_most is_built (lines_of bytes) 1, few_lines bytes))
+    sections_most by_table (sections_of by_table (numbered 1 (lines_of bytes))) text_limit nothing
+    (omega (arith, sectioned_most by_table (numbered 1 (lines_of bytes)), numbered_most by_table (lines_of bytes) 1, few_lines bytes))
 
 pub items_fit : (bytes : Bytes) (s : Session) → session_of bytes ≡ Ok s → length s.items < 2 ^ 31
 items_fit bytes s e =
@@ -116,7 +115,7 @@ items_fit bytes s e =
 long_told : (bytes : Bytes) → 16777217 ≤ length bytes → session_of bytes ≡ refused_at 0 word.Long
 long_told bytes h = by (nat_lt text_limit (length bytes)) refl
   where
-    by : (b : Bool) → nat_lt text_limit (length bytes) ≡ b → unless_long b (session_from is_built nothing 1 (lines_of bytes)) ≡ refused_at 0 word.Long
+    by : (b : Bool) → nat_lt text_limit (length bytes) ≡ b → unless_long b (session_from by_table nothing 1 (lines_of bytes)) ≡ refused_at 0 word.Long
     by true e = refl
     by false e = let short : length bytes ≤ text_limit = ltb-false text_limit (length bytes) e in
         let none : ⊥ = omega arith in

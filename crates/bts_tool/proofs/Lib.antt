@@ -1,5 +1,3 @@
 pub mod Counted
-pub mod Session
 pub mod Told
-pub mod Turns
-pub mod Within
+pub mod Stopped

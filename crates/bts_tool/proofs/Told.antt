@@ -1,17 +1,17 @@
 -- What was read, where the source tells what it holds.
-use Rattle.std.proofs.Common.{◌≡◌, ℕ, ◌<◌, ◌≤◌, List, [], ◌++◌, length, drop, refl, sym, ap, ◌∙◌, arith, true, Option, Some, None, Result, Ok, Err, inl, inr, ⊎_elim, length-append}
+use Rattle.std.proofs.Common.{◌≡◌, ℕ, ◌<◌, ◌≤◌, List, [], ◌++◌, length, drop, refl, sym, ap, ◌∙◌, arith, true, Option, Some, None, is_some, Result, Ok, Err, inl, inr, ⊎_elim, length-append}
 use Rattle.std.proofs.lemmas.List.{append-nil}
 use Rattle.std.proofs.lemmas.Bool.{cases_lt}
 use Rattle.std.proofs.Math.Seq.{drop-append_seam}
 use Rattle.std.specs.Io.KnownBytes.{Consumes, IsAtEnd}
 use Rattle.bts_names.specs.Names.{Bytes}
-use Rattle.bts_command.specs.declared.ended.Ended.{Ended}
 use Rattle.bts_script.specs.Blocks.{Refusal}
 use Rattle.bts_session.specs.Sessions.{session_of}
 use Rattle.bts_session.specs.declared.session.Session.{Session}
 use Rattle.bts_tool.proofs.Counted.{long_alike}
 use Rattle.bts_tool.specs.declared.cause.Cause.{Cause}
 use Rattle.bts_tool.specs.declared.cause.Cause.TheVariants.{WordsRefused, SourceFault, BadSession, NoMemory}
+use Rattle.bts_tool.specs.declared.session.Ran.{Ran}
 use Rattle.bts_tool.specs.Causes.{read_limit, IsRead, IsSaid, Meets, MeetsText}
 
 -- the text is what the source had left, or as much of it as is read at most
@@ -55,10 +55,11 @@ said (Some bytes) left text what r e =
     (cases_lt (length text) read_limit)
 
 -- what was read decides
-pub meets : (input left : Option Bytes) (text : Bytes) (faults now : ℕ) (found : Result (List Ended) Cause) → Reads input left text → MeetsText text found → Meets true input left faults now found
-meets input left text faults now (Err WordsRefused) r m = absurd m
-meets input left text faults now (Err SourceFault) r m = absurd m
-meets input left text faults now (Err (BadSession n why)) r m = (refl, read input left text r, said input left text _ r m)
-meets input left text faults now (Err NoMemory) r m = refl
-meets input left text faults now (Ok history) r m =
-    (refl, read input left text r, (m.0, said input left text (Ok m.0) r m.1, m.2))
+pub meets : (allowed : Option ℕ) (limit : ℕ) (input left : Option Bytes) (text : Bytes) (faults now : ℕ) (found : Result Ran Cause) → allowed ≡ Some limit → Reads input left text → MeetsText text limit found
+    → Meets allowed input left faults now found
+meets allowed limit input left text faults now (Err WordsRefused) e r m = absurd m
+meets allowed limit input left text faults now (Err SourceFault) e r m = absurd m
+meets allowed limit input left text faults now (Err (BadSession n why)) e r m = (ap is_some e, read input left text r, said input left text _ r m)
+meets allowed limit input left text faults now (Err NoMemory) e r m = ap is_some e
+meets allowed limit input left text faults now (Ok ran) e r m =
+    (ap is_some e, read input left text r, (m.0, limit, e, said input left text (Ok m.0) r m.1, m.2))

@@ -1,14 +1,28 @@
 -- The words of the command line.
-use Rattle.std.specs.Prelude.{Bool, false, not, nat_eq, ◌&&◌, List, [], ◌∷◌, codes}
+use Rattle.std.specs.Prelude.{ℕ, Bool, false, not, nat_eq, ◌&&◌, cond, List, [], ◌∷◌, codes, Option, Some, None}
 use Rattle.std.specs.Str.{bytes_eq}
 use Rattle.bts_names.specs.Names.{Bytes}
+use Rattle.bts_forms.specs.Texts.{number_within}
 
 -- a file has at least one byte, and doesn't begin with `-`
 abbrev pub is_file : Bytes → Bool
 is_file [] = false
 is_file (b ∷ bs) = not (nat_eq b 45)
 
--- `run FILE`
-abbrev pub takes_words : List Bytes → Bool
-takes_words (verb ∷ file ∷ []) = bytes_eq verb (codes "run") && is_file file
-takes_words _ = false
+-- the most activations that may be allowed, and how many are where nothing is said
+abbrev pub greatest_limit : ℕ
+greatest_limit = 1_000_000
+
+abbrev pub usual_limit : ℕ
+usual_limit = 100_000
+
+-- the activations that options allow: `--limit` and a number, or nothing
+abbrev pub limit_in : List Bytes → Option ℕ
+limit_in [] = Some usual_limit
+limit_in (option ∷ number ∷ []) = cond (bytes_eq option (codes "--limit")) (number_within greatest_limit number) None
+limit_in _ = None
+
+-- `run FILE` and options: how many activations may end
+unfoldable pub limit_of : List Bytes → Option ℕ
+limit_of (verb ∷ file ∷ options) = cond (bytes_eq verb (codes "run") && is_file file) (limit_in options) None
+limit_of _ = None

@@ -13,7 +13,7 @@ use thiserror::Error;
 /// come at any time behind the words.
 #[derive(Clone, Copy, Debug, PartialEq, Eq, Error)]
 pub enum Cause {
-    /// The words aren't `run FILE`.
+    /// The words aren't `run FILE` with perhaps `--limit N`.
     #[error("words refused")]
     WordsRefused,
     #[error("source fault")]

@@ -1,17 +1,16 @@
-//! `bts run FILE`: does the session that standard input holds, and reports it on standard output.
+//! `bts run FILE [--limit N]`: does the session that standard input holds, and reports it on standard output.
 #![tactic(auto)]
 
 mod cause;
-mod process;
-mod processes;
-mod requests;
+mod session;
+#[cfg(test)]
+mod stories;
 mod streams;
 mod tail;
 #[cfg(test)]
 mod tests;
 mod top_call;
 mod words;
-mod work;
 
 use bts_names::NoMemory;
 use std::alloc::Global;

@@ -1,15 +1,16 @@
-// The last line of a run that was done.
+// The last line of a run.
 ghost use Rattle.std.specs.Prelude.{◌≡◌, ◌++◌, OnOk};
-ghost use Rattle.bts_tool.specs.Tail.{end_line};
+ghost use Rattle.bts_tool.specs.Tail.{counted_line};
 
 use bts_names::{Blob, NoMemory};
 use bts_report::add_number;
 
-/// Adds the line END with a count of units.
-pub fn add_end_line(out: &mut Blob, n: u64) -> Result<(), NoMemory>
-    ensures { OnOk result (out.new ≡ out.old ++ end_line n) }
+/// Adds a line of a word and a count.
+pub fn add_counted_line(out: &mut Blob, word: &[u8], n: u64) -> Result<(), NoMemory>
+    ensures { OnOk result (out.new ≡ out.old ++ counted_line word.now n) }
 {
-    out.extend(b"END ")?;
+    out.extend(word)?;
+    out.push(b' ')?;
     add_number(out, n)?;
-    out.extend(b"\n")
+    out.push(b'\n')
 }

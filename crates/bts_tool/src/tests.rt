@@ -67,19 +67,30 @@ fn words_of(alloc: Global, line: &str) -> Result<Vec<String>, Fail> {
     Ok(words)
 }
 
-/// What `run F` comes to on a text whose source and sink don't fail.
-fn run(alloc: Global, text: &str, sink: &mut MemorySink) -> Result<Outcome, Fail> {
+/// What words come to on a text whose source and sink don't fail.
+fn run(alloc: Global, line: &str, text: &str, sink: &mut MemorySink) -> Result<Outcome, Fail> {
     let bytes = Blob::copy_of(alloc, text.as_bytes())?;
     let mut source = MemorySource::new(bytes, Vec::new(alloc));
-    let words = words_of(alloc, "run F")?;
+    let words = words_of(alloc, line)?;
     Ok(bts_command(alloc, &words, &mut source, sink))
 }
 
-/// Whether this text gets that answer.
-fn answers(alloc: Global, text: &str, status: u8, told: &str) -> Result<bool, Fail> {
+/// Whether these words get that answer on a text.
+pub fn answers_to(
+    alloc: Global,
+    line: &str,
+    text: &str,
+    status: u8,
+    told: &str,
+) -> Result<bool, Fail> {
     let mut sink = MemorySink::new(alloc, Vec::new(alloc));
-    let outcome = run(alloc, text, &mut sink)?;
+    let outcome = run(alloc, line, text, &mut sink)?;
     Ok(outcome.status == status && sink.bytes() == told.as_bytes())
+}
+
+/// Whether `run F` gets that answer on a text.
+fn answers(alloc: Global, text: &str, status: u8, told: &str) -> Result<bool, Fail> {
+    answers_to(alloc, "run F", text, status, told)
 }
 
 /// Whether a session with these lines between its opening and its end is done, with these lines of calls.
@@ -103,7 +114,7 @@ fn answers_at_names(alloc: Global, lens: [usize; 3], status: u8) -> Result<bool,
         "REQUEST {ptype} {pname}\nDEFINE PROCESS TRANSID(O) PROGRAM(P)\nGET CONTAINER({container}) ACQPROCESS\nEND\n"
     )?;
     let mut sink = MemorySink::new(alloc, Vec::new(alloc));
-    Ok(run(alloc, &text, &mut sink)?.status == status)
+    Ok(run(alloc, "run F", &text, &mut sink)?.status == status)
 }
 
 /// Whether the first request ends so, with so many calls and one line more of them.
@@ -220,11 +231,17 @@ fn bad_sessions_are_told(rt: HostRuntime) -> Result<(), Fail> {
         ("* x\n\nREQUEST ORDERS P1", "session: line 3 Open\n"),
         ("REQUEST DFHX P1\nEND\nHELLO\n", "session: line 1 Name\n"),
         (
-            "REQUEST T P\nGET CONTAINER(C)\nEND\n",
+            "REQUEST T P\nCANCEL ACQPROCESS\nEND\n",
             "session: line 2 NotYet\n",
         ),
         ("REQUEST T P\nREQUEST T P\nEND\n", "session: line 2 Place\n"),
         ("END\n", "session: line 1 Place\n"),
+        ("RETURN\n", "session: line 1 Place\n"),
+        ("PROGRAM A\nGOTO X\nEND\n", "session: line 2 Label\n"),
+        (
+            "PROGRAM A\nEND\nPROGRAM A\nEND\n",
+            "session: line 3 Twice\n",
+        ),
         ("REQUEST T\tP\n", "session: line 1 Character\n"),
         (
             "REQUEST T P\nPUT CONTAINER(C) ACQPROCESS FROM('a'b')\nEND\n",
@@ -262,6 +279,12 @@ fn faults_and_wrong_words_are_told(rt: HostRuntime) -> Result<(), Fail> {
         ("run ", [0, 0], 2, "words refused\n"),
         ("check F", [0, 0], 2, "words refused\n"),
         ("run F --live", [0, 0], 2, "words refused\n"),
+        ("run F --limit=3", [0, 0], 2, "words refused\n"),
+        ("run F --limit", [0, 0], 2, "words refused\n"),
+        ("run F --limit 03", [0, 0], 2, "words refused\n"),
+        ("run F --limit 1000001", [0, 0], 2, "words refused\n"),
+        ("run --limit 3 F", [0, 0], 2, "words refused\n"),
+        ("run F --limit 3 --limit 3", [0, 0], 2, "words refused\n"),
         ("run F", [1, 0], 4, "source fault\n"),
         ("run F", [1, 1], 5, ""),
         ("run F", [0, 1], 5, ""),
@@ -295,7 +318,7 @@ fn a_request_is_one_unit(rt: HostRuntime) -> Result<(), Fail> {
     let alloc = rt.alloc();
     let mut sink = MemorySink::new(alloc, Vec::new(alloc));
     let text = format!(in alloc; "{OPENING}{GET}END\n")?;
-    let outcome = run(alloc, &text, &mut sink)?;
+    let outcome = run(alloc, "run F", &text, &mut sink)?;
     let history = outcome.history.ok_or("no history")?;
     assert_eq!(rt; history.len(), 1);
     let unit = history.as_slice().first().ok_or("no unit")?;

@@ -1,5 +1,5 @@
 -- A unit is what its beginning, its calls and the code that stopped it give.
-use Rattle.std.proofs.Common.{◌≡◌, ℕ, true, false, List, [], ◌∷◌, ◌++◌, Option, Some, None, is_some, is_none, option_to_list, refl, sym, ap, ◌∙◌, subst}
+use Rattle.std.proofs.Common.{◌≡◌, ◌≤◌, ℕ, true, false, List, [], ◌∷◌, ◌++◌, Option, Some, None, is_some, is_none, length, option_to_list, refl, sym, ap, ◌∙◌, subst, arith}
 use Rattle.std.specs.List.{filter_map}
 use Rattle.std.specs.Option.{option_map, unwrap_or}
 use Rattle.bts_names.specs.Names.{Name, ActivityPath}
@@ -80,13 +80,17 @@ paths_case : (o : Option FirstFrame) → filter_map {X = OpenFrame} (λ f. f.at)
 paths_case None = refl
 paths_case (Some f) = by f.at
   where
-    by : (at : Option ActivityPath) → filter_map {X = OpenFrame} (λ g. g.at) (record { at = at; opened = 0; retrieved = f.retrieved; kept = Some (record { process = f.kept.process; entered = []; retrieved = []; dropped = [] }) } ∷ []) ≡ option_to_list at
+    by : (at : Option ActivityPath) → filter_map {X = OpenFrame} (λ g. g.at) (record { at = at; program = f.program; opened = 0; retrieved = f.retrieved; kept = Some (record { process = f.kept.process; entered = []; retrieved = []; dropped = [] }) } ∷ []) ≡ option_to_list at
     by None = refl
     by (Some p) = refl
 
 top_case : (o : Option FirstFrame) → top_path (frames_of o) ≡ at_of o
 top_case None = refl
 top_case (Some f) = refl
+
+few_case : (o : Option FirstFrame) → length (frames_of o) ≤ 1
+few_case None = omega arith
+few_case (Some f) = omega arith
 
 module _ (w : Work) (calls : List Call) (stopped : Option Name) (u : UnitOfWork) (i : IsWorkOf w calls stopped u) where
   pub same_end : u.end ≡ w.end
@@ -100,6 +104,9 @@ module _ (w : Work) (calls : List Call) (stopped : Option Name) (u : UnitOfWork)
 
   pub same_top : top_path u.frames ≡ path_in w
   same_top = ap (λ v. top_path v.frames) i.unit ∙ top_case w.frame
+
+  pub few_frames : length u.frames ≤ 1
+  few_frames = subst (λ v. length v.frames ≤ 1) (sym i.unit) (few_case w.frame)
 
   pub is_open : is_none u.end ≡ true → is_some w.frame ≡ true
   is_open h = sym i.fits ∙ ap is_none (sym same_end) ∙ h

@@ -37,7 +37,23 @@ use Rattle.bts_unit.specs.declared.work.Work.{Work}
 -- ---- the frame of a unit with one frame
 
 abbrev pub opened : FirstFrame → OpenFrame
-opened f = record { at = f.at; opened = 0; retrieved = f.retrieved; kept = Some (record { process = f.kept.process; entered = []; retrieved = []; dropped = [] }) }
+opened f = record { at = f.at; program = f.program; opened = 0; retrieved = f.retrieved; kept = Some (record { process = f.kept.process; entered = []; retrieved = []; dropped = [] }) }
+
+-- ---- one command
+
+-- a command of one frame opens none
+pub opens_none : (at : Option ActivityPath) (c : Command) → is_of_one_frame at c ≡ true → opens_on c ≡ None
+opens_none None (command.Run t true v) i = cc
+opens_none (Some p) (command.Run t true v) i = cc
+opens_none at (command.Run t false v) i = refl
+opens_none None (command.Link t v) i = cc
+opens_none (Some p) (command.Link t v) i = cc
+opens_none at _ i = refl
+
+pub behind_process : (got : Bool) (now : Standing) (x : Process) → (behind got now x).process ≡ x
+unfolding moved retrieving
+behind_process true now x = refl
+behind_process false now x = refl
 
 module _ (m : ℕ) (b s : HeldProcess) (h : Held) (e : Option End) (f : FirstFrame) where
   abbrev work : Work
@@ -126,11 +142,6 @@ module _ (m : ℕ) (b s : HeldProcess) (h : Held) (e : Option End) (f : FirstFra
   marked_so true = refl
   marked_so false = refl
 
-  behind_process : (got : Bool) (now : Standing) (x : Process) → (behind got now x).process ≡ x
-  unfolding moved retrieving
-  behind_process true now x = refl
-  behind_process false now x = refl
-
   -- the unit behind a command, with this process and this acquired
   abbrev shown_behind : Process → Held → List OpenFrame → Standing → List Call → UnitOfWork
   shown_behind x g frames now calls = record { moment = m; base = b.process; held = g; now = now; frames = frames; calls = calls; end = e }
@@ -172,14 +183,6 @@ module _ (m : ℕ) (b s : HeldProcess) (h : Held) (e : Option End) (f : FirstFra
   goes_on_by_row (command.Abend code) n u = cc
   goes_on_by_row command.Rollback n u = cc
   goes_on_by_row _ n u = refl
-
-  opens_none : (at : Option ActivityPath) (c : Command) → is_of_one_frame at c ≡ true → opens_on c ≡ None
-  opens_none None (command.Run t true v) i = cc
-  opens_none (Some p) (command.Run t true v) i = cc
-  opens_none at (command.Run t false v) i = refl
-  opens_none None (command.Link t v) i = cc
-  opens_none (Some p) (command.Link t v) i = cc
-  opens_none at _ i = refl
 
   -- a command that ends no frame
   pub rows : (c : Command) (reply : Reply) (t : Process) (g : Held) → ends_frame c ≡ false → is_of_one_frame f.at c ≡ true

@@ -15,7 +15,7 @@ use Rattle.bts_rows.specs.Rows.{answer}
 use Rattle.bts_rows.specs.Targets.{Here, Named, path, none, named_by}
 use Rattle.bts_act.specs.Replies.{normal, refusal}
 use Rattle.bts_unit.specs.Ends.{abended, out_of_place, returned, rolled_back}
-use Rattle.bts_unit.specs.Frames.{OpenFrame, UnitOfWork, activated, here}
+use Rattle.bts_unit.specs.Frames.{OpenFrame, UnitOfWork, activated, here, program_at}
 use Rattle.bts_unit.specs.Standings.{behind, with_process}
 
 -- ---- frames that commands open
@@ -35,7 +35,7 @@ abbrev pub with_frame : ActivityPath → Bool → UnitOfWork → UnitOfWork
 with_frame p keeps u =
     record u {
       now = with_process (activated p u.now.process) u.now;
-      frames = record { at = Some p; opened = length u.calls + 1; retrieved = false; kept = cond keeps (Some u.now) None } ∷ u.frames;
+      frames = record { at = Some p; program = program_at (Some p) u.now.process; opened = length u.calls + 1; retrieved = false; kept = cond keeps (Some u.now) None } ∷ u.frames;
     }
 
 abbrev pub with_frame_at : Named → Bool → UnitOfWork → UnitOfWork

@@ -1,7 +1,8 @@
 -- The open frames of a unit of work, and how it begins.
-use Rattle.std.specs.Prelude.{ℕ, Bool, true, false, List, [], ◌∷◌, Option, Some, None, is_some}
+use Rattle.std.specs.Prelude.{ℕ, Bool, true, false, List, [], ◌∷◌, length, Option, Some, None, is_some}
 use Rattle.std.specs.List.{filter_map}
-use Rattle.bts_names.specs.Names.{ActivityPath}
+use Rattle.std.specs.Option.{option_map}
+use Rattle.bts_names.specs.Names.{Name, ActivityPath}
 use Rattle.bts_command.specs.declared.command.Call.{Call}
 use Rattle.bts_command.specs.declared.ended.End.{End}
 use Rattle.bts_command.specs.declared.ended.UnitKind.{UnitKind}
@@ -13,11 +14,14 @@ use Rattle.bts_rows.specs.declared.held.Held.{Held}
 use Rattle.bts_rows.specs.declared.held.Held.TheVariants as held
 use Rattle.bts_rows.specs.Targets.{Here, in_activity, in_request}
 use Rattle.bts_unit.specs.Standings.{Standing, standing, with_process}
+use Rattle.bts_unit.specs.declared.frame.Frame.{Frame}
 
--- whose frame it is, or none for a request's first one; how many calls were made before it opened; whether an entry
--- was retrieved in it; and what its abend gives back, or none where it gives nothing back
+-- whose frame it is, and the program of that activity when it opened, or none for a request's first one; how many
+-- calls were made before it opened; whether an entry was retrieved in it; and what its abend gives back, or none where
+-- it gives nothing back
 pub record OpenFrame : Type 0 where
   pub at : Option ActivityPath
+  pub program : Option Name
   pub opened : ℕ
   pub retrieved : Bool
   pub kept : Option Standing
@@ -42,6 +46,16 @@ abbrev pub here : Held → Option ActivityPath → Here
 here h None = in_request h
 here h (Some p) = in_activity p
 
+-- the program of a frame that opens in a process
+abbrev pub program_at : Option ActivityPath → Process → Option Name
+program_at None s = None
+program_at (Some p) s = option_map (λ a. a.program) (activity_at p s)
+
+-- the top frame, as a caller sees it
+abbrev pub top_frame : List OpenFrame → Option Frame
+top_frame [] = None
+top_frame (f ∷ fs) = Some (record { at = f.at; program = f.program; depth = length (f ∷ fs) })
+
 -- the activity of a frame is there
 abbrev pub is_there_at : Option ActivityPath → Process → Bool
 is_there_at None s = true
@@ -64,7 +78,7 @@ path_of _ = None
 
 -- the first frame, whose abend gives back the process at the unit's start
 abbrev pub first_frame : Option ActivityPath → Process → OpenFrame
-first_frame at s = record { at = at; opened = 0; retrieved = false; kept = Some (standing s) }
+first_frame at s = record { at = at; program = program_at at s; opened = 0; retrieved = false; kept = Some (standing s) }
 
 -- a request or an activation before its first call
 abbrev pub start : UnitKind → ℕ → Process → UnitOfWork

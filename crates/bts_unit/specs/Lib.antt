@@ -8,3 +8,4 @@ pub mod Playing
 pub mod OneFrame
 pub mod OnWork
 pub mod Replays
+pub mod Soundness

@@ -22,7 +22,7 @@ use Rattle.bts_rows.specs.Replies.{is_normal}
 use Rattle.bts_act.specs.Replies.{normal}
 use Rattle.bts_unit.specs.Calls.{is_retrieval}
 use Rattle.bts_unit.specs.Ends.{leaving_of, out_of_place}
-use Rattle.bts_unit.specs.Frames.{OpenFrame, UnitOfWork, is_there_at, opened_at, path_of}
+use Rattle.bts_unit.specs.Frames.{OpenFrame, UnitOfWork, is_there_at, opened_at, path_of, program_at}
 use Rattle.bts_unit.specs.Standings.{Standing, standing}
 use Rattle.bts_unit.specs.Standings as standings
 use Rattle.bts_unit.specs.declared.work.FirstFrame.{FirstFrame}
@@ -32,7 +32,7 @@ use Rattle.bts_unit.specs.declared.work.Work.{Work}
 
 abbrev pub frames_of : Option FirstFrame → List OpenFrame
 frames_of None = []
-frames_of (Some f) = record { at = f.at; opened = 0; retrieved = f.retrieved; kept = Some (standing f.kept.process) } ∷ []
+frames_of (Some f) = record { at = f.at; program = f.program; opened = 0; retrieved = f.retrieved; kept = Some (standing f.kept.process) } ∷ []
 
 abbrev pub unit_of : Work → Standing → List Call → UnitOfWork
 unit_of w now calls =
@@ -147,7 +147,7 @@ opened at moment base kept scope =
       base = base;
       scope = holding (opened_at at scope.process) scope;
       held = held.Never;
-      frame = Some (record { at = at; retrieved = false; kept = kept });
+      frame = Some (record { at = at; program = program_at at scope.process; retrieved = false; kept = kept });
       end = None;
     }
 

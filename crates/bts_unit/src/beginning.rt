@@ -3,13 +3,13 @@ ghost use Rattle.std.specs.Prelude.{◌≡◌, true, IfOk, OnErr, IfErr, IsSome,
 ghost use Rattle.bts_tree.specs.Activities.{by_cause};
 ghost use Rattle.bts_tree.specs.Modes.{frame_opens};
 ghost use Rattle.bts_tree.specs.Scopes.{holding};
-ghost use Rattle.bts_unit.specs.Frames.{is_there_at, opened_at, path_of as path_by};
+ghost use Rattle.bts_unit.specs.Frames.{is_there_at, opened_at, path_of as path_by, program_at};
 ghost use Rattle.bts_unit.specs.OneFrame.{may_begin};
 ghost use Rattle.bts_unit.specs.OnWork as on;
 
 use crate::work::{FirstFrame, Work};
 use bts_command::UnitKind;
-use bts_names::{Mode, Moment, NoMemory, Path, Status};
+use bts_names::{Mode, Moment, NoMemory, Path, ProgName, Status};
 use bts_rows::Held;
 use bts_tree::{Activity, Scope};
 use std::alloc::Global;
@@ -43,6 +43,16 @@ fn open_at(scope: &mut Scope, at: &Option<Path>)
     }
 }
 
+/// The program of the activity whose frame opens.
+fn program_of(scope: &Scope, at: &Option<Path>) -> Option<ProgName>
+    ensures { result ≡ program_at at.now scope.now.process }
+{
+    match at {
+        Some(path) => scope.activity(path).map(|activity| activity.program),
+        None => None,
+    }
+}
+
 /// The work of a unit before its first call. Where there is no memory for two copies of the process it comes back.
 pub(crate) fn begin(
     alloc: Global,
@@ -67,6 +77,7 @@ fn opened(mut scope: Scope, base: Scope, kept: Scope, at: Option<Path>, moment: 
     requires { is_there_at at scope.process ≡ true }
     ensures { result ≡ on.opened at moment base kept scope }
 {
+    let program = program_of(&scope, &at);
     open_at(&mut scope, &at);
     Work {
         moment,
@@ -75,6 +86,7 @@ fn opened(mut scope: Scope, base: Scope, kept: Scope, at: Option<Path>, moment: 
         held: Held::Never,
         frame: Some(FirstFrame {
             at,
+            program,
             retrieved: false,
             kept,
         }),

@@ -30,6 +30,7 @@ pub(crate) fn abend(work: &mut Work, code: Abcode)
     if let Some(frame) = work.frame.take() {
         let FirstFrame {
             at,
+            program: _,
             retrieved: _,
             kept,
         } = frame;

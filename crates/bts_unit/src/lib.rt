@@ -2,19 +2,28 @@
 //!
 //! The definitions are in `specs/`: `Marks` and `Standings` (a process with an account of its entries), `Frames` (open
 //! frames, and how a unit begins), `Ends` (how frames end), `Calls` (one call, and calls one after the other), `Systems`
-//! (notices and expiries) and `Playing` (which ended units play, and what stands behind them).
+//! (notices and expiries), `Playing` (which ended units play, and what stands behind them) and `Soundness` (when a unit
+//! is sound).
 #![tactic(auto)]
 
 mod beginning;
 mod change;
 mod codes;
 mod ending;
+mod frame;
+mod laws;
 mod performing;
 mod rows;
 mod unit;
 mod work;
 
 pub use change::Change;
+pub use frame::Frame;
+pub use laws::{
+    a_lone_root_stays_alone, a_sound_unit_goes_on, a_unit_starts_sound,
+    an_abend_keeps_a_unit_sound, an_ended_unit_leaves_a_sound_process, calls_keep_a_unit_sound,
+    commands_keep_a_unit_sound, numbers_rise_with_the_calls,
+};
 pub use unit::Unit;
 
 #[cfg(test)]

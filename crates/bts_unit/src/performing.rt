@@ -3,7 +3,7 @@ ghost use Rattle.std.specs.Prelude.{◌≡◌, ◌<◌, ◌-◌, ◌^◌, IsTrue
 ghost use Rattle.bts_command.specs.declared.command.Command.TheVariants as commands;
 ghost use Rattle.bts_tree.specs.Soundness.{numbers_below};
 ghost use Rattle.bts_tree.specs.Scopes.{holding};
-ghost use Rattle.bts_rows.specs.Given.{IsGiven};
+ghost use Rattle.bts_command.specs.Given.{IsGiven};
 ghost use Rattle.bts_rows.specs.Replies.{is_normal};
 ghost use Rattle.bts_rows.specs.Rows.{answer};
 ghost use Rattle.bts_act.specs.Does.{Does};

@@ -1,18 +1,19 @@
 // Commands by their rows, in the one open frame of a unit.
-ghost use Rattle.std.specs.Prelude.{◌≡◌, ◌<◌, ◌-◌, ◌^◌, IsTrue, IsSome, Some, option_to_list, true, false};
+ghost use Rattle.std.specs.Prelude.{◌≡◌, ◌<◌, ◌-◌, ◌^◌, IsTrue, IsSome, Some, option_to_list, not, true, false};
 ghost use Rattle.bts_tree.specs.Processes.{activity_at};
 ghost use Rattle.bts_tree.specs.Scopes.{holding};
 ghost use Rattle.bts_tree.specs.Soundness.{IsSoundInFrames, numbers_below};
-ghost use Rattle.bts_rows.specs.Given.{IsGiven};
+ghost use Rattle.bts_command.specs.Given.{IsGiven};
+ghost use Rattle.bts_rows.specs.FamilyRows.{is_child};
 ghost use Rattle.bts_rows.specs.Rows.{answer};
 ghost use Rattle.bts_rows.specs.Targets.{in_activity as of_activity};
 ghost use Rattle.bts_act.specs.Does.{Does};
 ghost use Rattle.bts_act.specs.Early.{none_early};
 ghost use Rattle.bts_unit.specs.Frames.{here, is_there_at};
-ghost use Rattle.bts_unit.specs.OneFrame.{is_of_one_frame, ends_frame};
+ghost use Rattle.bts_unit.specs.OneFrame.{ends_frame, is_of_one_frame, is_of_requests};
 
 use bts_act::{act, refused};
-use bts_command::Command;
+use bts_command::{Command, Target};
 use bts_names::{Moment, NoMemory, Path, Reason, Reply, Resp};
 use bts_request::request;
 use bts_rows::Held;
@@ -47,6 +48,35 @@ pub(crate) fn do_row(
     }
 }
 
+fn is_acquired(target: &Target) -> bool
+    ensures { result ≡ not (is_child target.now) }
+{
+    !matches!(target, Target::Activity(_))
+}
+
+/// Whether a command acquires something, or is about what was acquired and opens no frame.
+fn is_of_requests(command: &Command) -> bool
+    ensures { result ≡ is_of_requests command.now }
+{
+    match command {
+        Command::DefineProcess { .. }
+        | Command::AcquireProcess
+        | Command::AcquireActivity { .. }
+        | Command::PurgeProcess => true,
+        Command::Run {
+            target,
+            synchronous,
+            ..
+        } => !*synchronous && is_acquired(target),
+        Command::Check { target }
+        | Command::Cancel { target }
+        | Command::Reset { target }
+        | Command::Suspend { target }
+        | Command::Resume { target } => is_acquired(target),
+        _ => false,
+    }
+}
+
 /// In an activity's frame nothing is acquired.
 fn in_activity(
     scope: &mut Scope,
@@ -68,7 +98,7 @@ fn in_activity(
     ensures kept { IsSoundInFrames (option_to_list (Some path.now)) scope.old.process
         → IsSoundInFrames (option_to_list (Some path.now)) scope.new.process }
 {
-    if command.number() <= 4 {
+    if is_of_requests(command) {
         scope.facts();
         return Ok(refused(Resp::Invreq, Reason::Place));
     }

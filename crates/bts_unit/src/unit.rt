@@ -1,19 +1,22 @@
 // A unit of work with one frame.
-ghost use Rattle.std.specs.Prelude.{◌≡◌, ◌<◌, ◌-◌, ◌^◌, IsTrue, IfOk, OnOk, OnErr, IfErr, Some, None, is_none, is_some, true, length, ◌++◌, ◌∷◌, []};
+ghost use Rattle.std.specs.Prelude.{◌≡◌, ◌<◌, ◌+◌, ◌-◌, ◌^◌, ℕ, IsTrue, IfOk, OnOk, OnErr, IfErr, IfSome, Some, None, is_none, is_some, true, false, length, ◌++◌, ◌∷◌, []};
 ghost use Rattle.std.specs.List.{slice_get};
 ghost use Rattle.std.specs.Option.{option_map};
-ghost use Rattle.bts_tree.specs.Soundness.{numbers_below};
-ghost use Rattle.bts_rows.specs.Given.{IsGiven};
+ghost use Rattle.bts_tree.specs.Soundness.{IsSoundInFrames, numbers_below};
+ghost use Rattle.bts_rows.specs.Bounds.{is_lone, is_within};
+ghost use Rattle.bts_command.specs.Given.{IsGiven};
 ghost use Rattle.bts_act.specs.Early.{none_early};
 ghost use Rattle.bts_unit.specs.Calls as calls;
 ghost use Rattle.bts_unit.specs.Ends.{abended_whole};
 ghost use Rattle.bts_unit.specs.Frames as frames;
 ghost use Rattle.bts_unit.specs.OneFrame.{is_of_one_frame, may_begin};
 ghost use Rattle.bts_unit.specs.Replays.{top_path};
+ghost use Rattle.bts_unit.specs.Soundness.{IsSoundLone, IsSoundUnit, IsSoundWithin, makes_more_in};
 
 use crate::beginning::begin;
 use crate::change::Change;
 use crate::ending::abend;
+use crate::frame::Frame;
 use crate::performing::perform;
 use crate::work::Work;
 use bts_command::{Call, Calls, Command, UnitKind};
@@ -58,6 +61,11 @@ impl Unit {
         requires { IsTrue (may_begin unit scope.process) }
         ensures ok { IfOk result (λ u. u ≡ frames.start unit moment scope.process) }
         ensures back { IfErr result (λ e. e.1 ≡ scope) }
+        ensures sound { IsSoundInFrames [] scope.process → IfOk result (λ u. IsSoundUnit u) }
+        ensures within { (n : ℕ) → IsSoundInFrames [] scope.process → is_within n scope.process ≡ true
+            → IfOk result (λ u. IsSoundWithin n u) }
+        ensures lone { IsSoundInFrames [] scope.process → is_lone scope.process ≡ true
+            → IfOk result (λ u. IsSoundLone u) }
     {
         match begin(alloc, scope, &unit, moment) {
             Ok(work) => Ok(Unit {
@@ -91,6 +99,11 @@ impl Unit {
         requires one_frame { IsTrue (is_of_one_frame (top_path self.old.frames) command) }
         ensures ok { OnOk result (self.new ≡ (calls.call self.old command).1) }
         ensures err { OnErr result (self.new ≡ self.old) }
+        ensures kept { IsSoundUnit self.old → IsSoundUnit self.new }
+        ensures within { (n : ℕ) → IsSoundWithin (n + length self.old.calls) self.old
+            → IsSoundWithin (n + length self.new.calls) self.new }
+        ensures lone { makes_more_in (top_path self.old.frames) command ≡ false
+            → IsSoundLone self.old → IsSoundLone self.new }
     {
         self.calls.reserve(1)?;
         let reply = perform(&mut self.work, self.alloc, &command)?;
@@ -106,10 +119,29 @@ impl Unit {
         &self.calls[self.calls.len() - 1].reply
     }
 
+    /// The calls so far, with their replies.
+    pub fn calls(&self) -> &[Call]
+        ensures { result.now ≡ self.now.calls }
+    {
+        self.calls.as_slice()
+    }
+
+    /// The open frame: whose it is, and which program runs in it. There is one as long as the unit hasn't ended.
+    pub fn frame(&self) -> Option<Frame>
+        ensures top { result ≡ frames.top_frame self.now.frames }
+        ensures at { IfSome result (λ f. f.at ≡ top_path self.now.frames) }
+        ensures open { is_some result ≡ is_none self.now.end }
+    {
+        self.work.top_frame()
+    }
+
     /// Ends all frames by an abend, which is that of the first one. The unit must not have ended.
     pub fn abend_all(&mut self, code: Abcode)
         requires { is_none self.old.end ≡ true }
-        ensures { self.new ≡ abended_whole code self.old }
+        ensures done { self.new ≡ abended_whole code self.old }
+        ensures kept { IsSoundUnit self.old → IsSoundUnit self.new }
+        ensures within { (n : ℕ) → IsSoundWithin n self.old → IsSoundWithin n self.new }
+        ensures lone { IsSoundLone self.old → IsSoundLone self.new }
     {
         abend(&mut self.work, code);
         self.stopped = Some(code);
@@ -129,6 +161,9 @@ impl Unit {
         ensures after { result.after.process ≡ self.now.process }
         ensures calls { result.calls ≡ self.calls }
         ensures end { Some result.end ≡ self.end }
+        ensures sound { IsSoundUnit self → IsSoundInFrames [] result.after.process }
+        ensures within { (n : ℕ) → IsSoundWithin n self → is_within n result.after.process ≡ true }
+        ensures lone { IsSoundLone self → is_lone result.after.process ≡ true }
     {
         let Unit {
             alloc: _,

@@ -89,6 +89,51 @@ sent_twice : report_from (any_event ++
 unfolding session_from history printed
 sent_twice = refl
 
+-- an order that waits until it is paid, and keeps what it got
+order_paid : report_from (
+    codes "PROGRAM ORDER" ∷
+    codes "RETRIEVE REATTACH EVENT" ∷
+    codes "WHEN EVENT(DFHINITIAL) GOTO FIRST" ∷
+    codes "GET CONTAINER(GOODS) PROCESS" ∷
+    codes "PUT CONTAINER(DONE) PROCESS FROM(LAST)" ∷
+    codes "RETURN ENDACTIVITY" ∷
+    codes "LABEL FIRST" ∷
+    codes "DEFINE INPUT EVENT(PAID)" ∷
+    codes "END" ∷
+    codes "REQUEST ORDERS N4711" ∷
+    codes "DEFINE PROCESS TRANSID(ORD1) PROGRAM(ORDER)" ∷
+    codes "PUT CONTAINER(GOODS) ACQPROCESS FROM('2 gear wheels (steel)')" ∷
+    codes "RUN ACQPROCESS ASYNCHRONOUS" ∷
+    codes "END" ∷
+    codes "SETTLE" ∷
+    codes "REQUEST ORDERS N4711" ∷
+    codes "ACQUIRE PROCESS" ∷
+    codes "RUN ACQPROCESS ASYNCHRONOUS INPUTEVENT(PAID)" ∷
+    codes "END" ∷
+    codes "SETTLE" ∷ []) ≡ text (
+    codes "1 REQUEST ORDERS N4711 1970-01-01T00:00:00 COMMIT" ∷
+    codes "  DEFINE PROCESS NORMAL" ∷
+    codes "  PUT CONTAINER(GOODS) NORMAL" ∷
+    codes "  RUN ACQPROCESS NORMAL" ∷
+    codes "  RETURN NORMAL" ∷
+    codes "2 ACTIVATION ORDERS N4711 / 1970-01-01T00:00:00 COMMIT" ∷
+    codes "  RETRIEVE REATTACH NORMAL DFHINITIAL SYSTEM" ∷
+    codes "  DEFINE INPUT(PAID) NORMAL" ∷
+    codes "  RETURN NORMAL DORMANT" ∷
+    codes "3 SETTLE 1970-01-01T00:00:00 COMMIT" ∷
+    codes "4 REQUEST ORDERS N4711 1970-01-01T00:00:00 COMMIT" ∷
+    codes "  ACQUIRE PROCESS NORMAL" ∷
+    codes "  RUN ACQPROCESS NORMAL" ∷
+    codes "  RETURN NORMAL" ∷
+    codes "5 ACTIVATION ORDERS N4711 / 1970-01-01T00:00:00 COMMIT" ∷
+    codes "  RETRIEVE REATTACH NORMAL PAID INPUT" ∷
+    codes "  GET CONTAINER(GOODS) NORMAL X'32206765617220776865656C732028737465656C29'" ∷
+    codes "  PUT CONTAINER(DONE) NORMAL" ∷
+    codes "  RETURN ENDACTIVITY NORMAL COMPLETE" ∷
+    codes "6 SETTLE 1970-01-01T00:00:00 COMMIT" ∷ [])
+unfolding session_from history printed
+order_paid = refl
+
 -- two entries of one composite
 two_entries : report_from (
     codes "PROGRAM ROOT" ∷

@@ -1,5 +1,5 @@
 -- Lines of scripts as they are read, computed.
-use Rattle.std.specs.Prelude.{◌≡◌, true, false, Some, None, Ok, Err, map, [], ◌∷◌, codes, refl}
+use Rattle.std.specs.Prelude.{◌≡◌, Bool, Option, true, false, Some, None, Ok, Err, map, [], ◌∷◌, codes, refl}
 use Rattle.bts_names.specs.Grammar.{is_name_byte}
 use Rattle.bts_names.specs.declared.reply.Resp.TheVariants as resp
 use Rattle.bts_command.specs.declared.command.Command.TheVariants as command
@@ -17,11 +17,10 @@ use Rattle.bts_forms.specs.Pieces.{up_to, ended, behind_word, argument, argument
 use Rattle.bts_forms.specs.Texts.{is_decimal, number_in, number_within, behind_front, cut_at, cut_at_last, closed_by, first_word}
 use Rattle.bts_forms.specs.Arguments.{step_in, steps_in, path_in, text_in, pairs_in, hex_digit, hex_pair, hex_pairs, fill_in}
 use Rattle.bts_script.specs.Blocks.{statement_in}
-use Rattle.bts_script.specs.Built.{has_form, built, in_process, literal_or_fill, put_in_process, get_in_process}
-use Rattle.bts_forms.specs.Forms.{program_line, request_line, end_line, clock_line, settle_line, browse_line, label_line, goto_line, when_line, define_process, acquire_process, acquire_activity, purge_process, define_activity, delete_activity, run, link, check, cancel, reset, suspend, resume, put_container, get_container, delete_container, define_input, define_composite, add_subevent, remove_subevent, delete_event, test_event, retrieve_reattach, retrieve_subevent, define_timer, force_timer, check_timer, delete_timer, plain_return, return_ending, abend, rollback, reads_by, target, spot, either, synchrony, connective, whether, input, due, acquired, early_condition, late_condition, condition}
+use Rattle.bts_forms.specs.Forms.{program_line, request_line, end_line, clock_line, settle_line, browse_line, label_line, goto_line, when_line, define_process, acquire_process, acquire_activity, purge_process, define_activity, delete_activity, run, link, check, cancel, reset, suspend, resume, put_container, get_container, delete_container, define_input, define_composite, add_subevent, remove_subevent, delete_event, test_event, retrieve_reattach, retrieve_subevent, define_timer, force_timer, check_timer, delete_timer, plain_return, return_ending, abend, rollback, reads_by, target, spot, either, synchrony, connective, whether, input, due, acquired, early_condition, late_condition, condition, Saying, forms, form_of, isnt_child, isnt_synchronous, behind_target, behind_container, asynchronous, run_through, check_through, container_through}
 
 -- one line of many kinds
-lines : map (statement_in (λ text. true) place.Program) (
+lines : map (statement_in (λ passes. true) place.Program) (
     codes "PUT CONTAINER(A) FROM(FILL(3))" ∷
     codes "PUT CONTAINER(A) PROCESS FROM(LAST)" ∷
     codes "  PUT   CONTAINER(A)  ACTIVITY(B) FROM('a ) (b')  " ∷
@@ -70,17 +69,43 @@ lines : map (statement_in (λ text. true) place.Program) (
     Err word.Literal ∷
     Err word.Place ∷
     []
-unfolding up_to ended program_line request_line end_line clock_line settle_line browse_line label_line goto_line when_line define_process acquire_process acquire_activity purge_process define_activity delete_activity run link check cancel reset suspend resume put_container get_container delete_container define_input define_composite add_subevent remove_subevent delete_event test_event retrieve_reattach retrieve_subevent define_timer force_timer check_timer delete_timer plain_return return_ending abend rollback reads_by target spot either synchrony connective whether input due acquired early_condition late_condition condition in_process literal_or_fill put_in_process get_in_process behind_word argument argument_in argument_to_last at_next_word behind_front cut_at cut_at_last closed_by first_word is_decimal number_in number_within step_in steps_in path_in text_in pairs_in hex_digit hex_pair hex_pairs fill_in is_name_byte days_of_months two_in marked_in civil_in moment_in
+unfolding up_to ended program_line request_line end_line clock_line settle_line browse_line label_line goto_line when_line define_process acquire_process acquire_activity purge_process define_activity delete_activity run link check cancel reset suspend resume put_container get_container delete_container define_input define_composite add_subevent remove_subevent delete_event test_event retrieve_reattach retrieve_subevent define_timer force_timer check_timer delete_timer plain_return return_ending abend rollback reads_by target spot either synchrony connective whether input due acquired early_condition late_condition condition behind_word argument argument_in argument_to_last at_next_word behind_front cut_at cut_at_last closed_by first_word is_decimal number_in number_within step_in steps_in path_in text_in pairs_in hex_digit hex_pair hex_pairs fill_in is_name_byte days_of_months two_in marked_in civil_in moment_in
 lines = refl
 
--- what is let through
-stage : map (has_form built) (
+-- what is let through: the form decides, and no argument
+abbrev passes : Option Saying → Bool
+passes None = false
+passes (Some x) = x.1
+
+stage : map (λ line. passes (form_of forms line)) (
     codes "PUT CONTAINER(A) ACQPROCESS FROM('x')" ∷
     codes "PUT CONTAINER(A) ACQPROCESS FROM(what)" ∷
-    codes "PUT CONTAINER(A) ACQPROCESS FROM(LAST)" ∷
-    codes "PUT CONTAINER(A) FROM('x')" ∷
-    codes "RETURN" ∷
+    codes "PUT CONTAINER(A) FROM(LAST)" ∷
+    codes "PUT CONTAINER(DFHA) PROCESS FROM('x')" ∷
+    codes "PUT CONTAINER(A) ACTIVITY(B) FROM('x')" ∷
+    codes "PUT CONTAINER(A) ACTIVITY(DFHX) FROM(what)" ∷
+    codes "PUT CONTAINER(A) FROM('a') ACTIVITY(B)" ∷
+    codes "GET CONTAINER(ACTIVITY) ACQACTIVITY" ∷
+    codes "GET CONTAINER() ACTIVITY(B)" ∷
+    codes "DELETE CONTAINER(A)" ∷
+    codes "DELETE CONTAINER(A) ACTIVITY(B)" ∷
+    codes "RUN ACQPROCESS ASYNCHRONOUS" ∷
+    codes "RUN ACQACTIVITY ASYNCHRONOUS INPUTEVENT(DFHX)" ∷
+    codes "RUN ACQPROCESS SYNCHRONOUS" ∷
+    codes "RUN ACTIVITY(A) ASYNCHRONOUS" ∷
+    codes "RUN ACTIVITY() SYNCHRONOUS INPUTEVENT(E)" ∷
+    codes "CHECK ACQACTIVITY" ∷
+    codes "CHECK ACTIVITY(DFHX)" ∷
+    codes "CHECK TIMER(T)" ∷
+    codes "CANCEL ACQPROCESS" ∷
+    codes "FORCE TIMER(T)" ∷
+    codes "WHEN EVENT(DFHX) GOTO L" ∷
     codes "RETURN ENDACTIVITY" ∷
-    []) ≡ true ∷ true ∷ false ∷ false ∷ true ∷ false ∷ []
-unfolding up_to ended program_line request_line end_line clock_line settle_line browse_line label_line goto_line when_line define_process acquire_process acquire_activity purge_process define_activity delete_activity run link check cancel reset suspend resume put_container get_container delete_container define_input define_composite add_subevent remove_subevent delete_event test_event retrieve_reattach retrieve_subevent define_timer force_timer check_timer delete_timer plain_return return_ending abend rollback reads_by target spot either synchrony connective whether input due acquired early_condition late_condition condition in_process literal_or_fill put_in_process get_in_process behind_word argument argument_in argument_to_last at_next_word behind_front cut_at cut_at_last closed_by first_word is_decimal number_in number_within step_in steps_in path_in text_in pairs_in hex_digit hex_pair hex_pairs fill_in is_name_byte
+    codes "SETTLE" ∷
+    codes "CLOCK x" ∷
+    codes "BROWSE" ∷
+    codes "HELLO" ∷
+    []) ≡
+    true ∷ true ∷ true ∷ true ∷ false ∷ false ∷ true ∷ true ∷ false ∷ true ∷ false ∷ true ∷ true ∷ false ∷ false ∷ false ∷ true ∷ false ∷ false ∷ false ∷ false ∷ true ∷ true ∷ true ∷ false ∷ false ∷ false ∷ []
+unfolding up_to ended program_line request_line end_line clock_line settle_line browse_line label_line goto_line when_line define_process acquire_process acquire_activity purge_process define_activity delete_activity run link check cancel reset suspend resume put_container get_container delete_container define_input define_composite add_subevent remove_subevent delete_event test_event retrieve_reattach retrieve_subevent define_timer force_timer check_timer delete_timer plain_return return_ending abend rollback reads_by target spot either synchrony connective whether input due acquired early_condition late_condition condition behind_word argument argument_in argument_to_last at_next_word behind_front cut_at cut_at_last closed_by first_word is_decimal number_in number_within step_in steps_in path_in text_in pairs_in hex_digit hex_pair hex_pairs fill_in is_name_byte isnt_child isnt_synchronous behind_target behind_container asynchronous run_through check_through container_through
 stage = refl

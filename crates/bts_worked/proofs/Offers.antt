@@ -14,7 +14,8 @@ use Rattle.bts_unit.specs.Calls.{call, called_in, run}
 use Rattle.bts_unit.specs.Standings.{moved, retrieving}
 use Rattle.bts_region.specs.Enabled.{works}
 use Rattle.bts_region.specs.Positions.{origin}
-use Rattle.bts_region.specs.Regions.{Out, RegionState, offer, work, wait, limit_met, all_done}
+use Rattle.bts_interp.specs.Stations.{Out}
+use Rattle.bts_region.specs.Regions.{RegionState, offer, work, wait, limit_met, all_done}
 use Rattle.bts_worked.proofs.Legal.{activation, key_of, lacking, p19, request, second_first, two}
 
 abbrev region : Session → ℕ → List Out → List Ended → RegionState

@@ -38,8 +38,9 @@ use Rattle.bts_interp.specs.NextCalls.{next_call, own_calls, unit_behind}
 use Rattle.bts_interp.specs.Steps.{next, place_behind}
 use Rattle.bts_interp.specs.Texts.{Texts}
 use Rattle.bts_region.specs.Enabled.{least, works}
-use Rattle.bts_region.specs.Histories.{number_behind, texts_of}
-use Rattle.bts_region.specs.Items.{clock_in, item_done, rows_in}
+use Rattle.bts_region.specs.Histories.{number_behind}
+use Rattle.bts_interp.specs.Items.{texts_of, item_done}
+use Rattle.bts_region.specs.Items.{clock_in, rows_in}
 use Rattle.bts_region.specs.Positions.{Position, behind, behind_all, origin}
 
 -- ---- a session from its text
@@ -55,7 +56,7 @@ text lines = flat_map (λ line. line ++ 10 ∷ []) lines
 -- the session that lines say, where all forms are let through
 unfoldable pub session_from : List Bytes → Session
 unfolding is_decimal number_in number_within behind_front cut_at cut_at_last closed_by first_word behind_word up_to argument argument_in at_next_word argument_to_last ended step_in steps_in path_in hex_digit hex_pair hex_pairs text_in pairs_in fill_in target spot either synchrony connective whether input due acquired early_condition late_condition condition program_line request_line end_line clock_line settle_line browse_line label_line goto_line when_line define_process acquire_process acquire_activity purge_process define_activity delete_activity forms.run link check cancel reset suspend resume put_container get_container delete_container define_input define_composite add_subevent remove_subevent delete_event test_event retrieve_reattach retrieve_subevent define_timer force_timer check_timer delete_timer plain_return return_ending abend rollback reads_by two_in marked_in civil_in moment_in days_of_months is_name_byte statements outside sections_of section_in sections_in
-session_from lines = session_or_nothing (session_in (λ line. true) (text lines))
+session_from lines = session_or_nothing (session_in (λ passes. true) (text lines))
 
 -- ---- its serial history
 

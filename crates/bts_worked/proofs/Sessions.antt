@@ -17,8 +17,7 @@ use Rattle.bts_session.specs.declared.session.Session.{Session}
 use Rattle.bts_forms.specs.Texts.{is_decimal, number_in, number_within, behind_front, cut_at, cut_at_last, closed_by, first_word}
 use Rattle.bts_forms.specs.Pieces.{behind_word, up_to, argument, argument_in, at_next_word, argument_to_last, ended}
 use Rattle.bts_forms.specs.Arguments.{step_in, steps_in, path_in, hex_digit, hex_pair, hex_pairs, text_in, pairs_in, fill_in}
-use Rattle.bts_forms.specs.Forms.{target, spot, either, synchrony, connective, whether, input, due, acquired, early_condition, late_condition, condition, program_line, request_line, end_line, clock_line, settle_line, browse_line, label_line, goto_line, when_line, define_process, acquire_process, acquire_activity, purge_process, define_activity, delete_activity, run, link, check, cancel, reset, suspend, resume, put_container, get_container, delete_container, define_input, define_composite, add_subevent, remove_subevent, delete_event, test_event, retrieve_reattach, retrieve_subevent, define_timer, force_timer, check_timer, delete_timer, plain_return, return_ending, abend, rollback, reads_by}
-use Rattle.bts_script.specs.Built.{in_process, literal_or_fill, put_in_process, get_in_process}
+use Rattle.bts_forms.specs.Forms.{target, spot, either, synchrony, connective, whether, input, due, acquired, early_condition, late_condition, condition, program_line, request_line, end_line, clock_line, settle_line, browse_line, label_line, goto_line, when_line, define_process, acquire_process, acquire_activity, purge_process, define_activity, delete_activity, run, link, check, cancel, reset, suspend, resume, put_container, get_container, delete_container, define_input, define_composite, add_subevent, remove_subevent, delete_event, test_event, retrieve_reattach, retrieve_subevent, define_timer, force_timer, check_timer, delete_timer, plain_return, return_ending, abend, rollback, reads_by, isnt_child, isnt_synchronous, behind_target, behind_container, asynchronous, run_through, check_through, container_through}
 use Rattle.bts_timer.specs.Moments.{two_in, marked_in, civil_in, moment_in}
 use Rattle.bts_timer.specs.Calendar.{days_of_months}
 use Rattle.bts_names.specs.Grammar.{is_name_byte}
@@ -26,11 +25,11 @@ use Rattle.bts_script.specs.Blocks.{statements}
 use Rattle.bts_session.specs.Sessions.{outside, sections_of, section_in, sections_in}
 
 abbrev in_full : Bytes → Result Session Refusal
-in_full = session_in (λ text. true)
+in_full = session_in (λ passes. true)
 
 -- texts that say nothing
 silent : map session_of (codes "" ∷ codes "\n" ∷ codes "* all in one" ∷ codes "\r\n  \n  * two\r\n" ∷ []) ≡ Ok nothing ∷ Ok nothing ∷ Ok nothing ∷ Ok nothing ∷ []
-unfolding is_decimal number_in number_within behind_front cut_at cut_at_last closed_by first_word behind_word up_to argument argument_in at_next_word argument_to_last ended step_in steps_in path_in hex_digit hex_pair hex_pairs text_in pairs_in fill_in target spot either synchrony connective whether input due acquired early_condition late_condition condition program_line request_line end_line clock_line settle_line browse_line label_line goto_line when_line define_process acquire_process acquire_activity purge_process define_activity delete_activity run link check cancel reset suspend resume put_container get_container delete_container define_input define_composite add_subevent remove_subevent delete_event test_event retrieve_reattach retrieve_subevent define_timer force_timer check_timer delete_timer plain_return return_ending abend rollback reads_by in_process literal_or_fill put_in_process get_in_process two_in marked_in civil_in moment_in days_of_months is_name_byte statements outside sections_of section_in sections_in
+unfolding is_decimal number_in number_within behind_front cut_at cut_at_last closed_by first_word behind_word up_to argument argument_in at_next_word argument_to_last ended step_in steps_in path_in hex_digit hex_pair hex_pairs text_in pairs_in fill_in target spot either synchrony connective whether input due acquired early_condition late_condition condition program_line request_line end_line clock_line settle_line browse_line label_line goto_line when_line define_process acquire_process acquire_activity purge_process define_activity delete_activity run link check cancel reset suspend resume put_container get_container delete_container define_input define_composite add_subevent remove_subevent delete_event test_event retrieve_reattach retrieve_subevent define_timer force_timer check_timer delete_timer plain_return return_ending abend rollback reads_by two_in marked_in civil_in moment_in days_of_months is_name_byte statements outside sections_of section_in sections_in
 silent = refl
 
 -- one request, as it is let through now
@@ -43,7 +42,7 @@ first_run : session_of (codes "REQUEST ORDERS P1\nDEFINE PROCESS TRANSID(ORD1) P
           []) ∷ [];
       programs = [];
     })
-unfolding is_decimal number_in number_within behind_front cut_at cut_at_last closed_by first_word behind_word up_to argument argument_in at_next_word argument_to_last ended step_in steps_in path_in hex_digit hex_pair hex_pairs text_in pairs_in fill_in target spot either synchrony connective whether input due acquired early_condition late_condition condition program_line request_line end_line clock_line settle_line browse_line label_line goto_line when_line define_process acquire_process acquire_activity purge_process define_activity delete_activity run link check cancel reset suspend resume put_container get_container delete_container define_input define_composite add_subevent remove_subevent delete_event test_event retrieve_reattach retrieve_subevent define_timer force_timer check_timer delete_timer plain_return return_ending abend rollback reads_by in_process literal_or_fill put_in_process get_in_process two_in marked_in civil_in moment_in days_of_months is_name_byte statements outside sections_of section_in sections_in
+unfolding is_decimal number_in number_within behind_front cut_at cut_at_last closed_by first_word behind_word up_to argument argument_in at_next_word argument_to_last ended step_in steps_in path_in hex_digit hex_pair hex_pairs text_in pairs_in fill_in target spot either synchrony connective whether input due acquired early_condition late_condition condition program_line request_line end_line clock_line settle_line browse_line label_line goto_line when_line define_process acquire_process acquire_activity purge_process define_activity delete_activity run link check cancel reset suspend resume put_container get_container delete_container define_input define_composite add_subevent remove_subevent delete_event test_event retrieve_reattach retrieve_subevent define_timer force_timer check_timer delete_timer plain_return return_ending abend rollback reads_by two_in marked_in civil_in moment_in days_of_months is_name_byte statements outside sections_of section_in sections_in isnt_child isnt_synchronous behind_target behind_container asynchronous run_through check_through container_through
 first_run = refl
 
 -- items in order, among them two requests for one process, with a program between them
@@ -58,7 +57,7 @@ items : in_full (codes "CLOCK 1970-01-01T00:01:01\nREQUEST T P\nEND\nPROGRAM A\n
           [];
       programs = (codes "A", statement.Label (codes "L") ∷ statement.Goto (codes "L") ∷ []) ∷ [];
     })
-unfolding is_decimal number_in number_within behind_front cut_at cut_at_last closed_by first_word behind_word up_to argument argument_in at_next_word argument_to_last ended step_in steps_in path_in hex_digit hex_pair hex_pairs text_in pairs_in fill_in target spot either synchrony connective whether input due acquired early_condition late_condition condition program_line request_line end_line clock_line settle_line browse_line label_line goto_line when_line define_process acquire_process acquire_activity purge_process define_activity delete_activity run link check cancel reset suspend resume put_container get_container delete_container define_input define_composite add_subevent remove_subevent delete_event test_event retrieve_reattach retrieve_subevent define_timer force_timer check_timer delete_timer plain_return return_ending abend rollback reads_by in_process literal_or_fill put_in_process get_in_process two_in marked_in civil_in moment_in days_of_months is_name_byte statements outside sections_of section_in sections_in
+unfolding is_decimal number_in number_within behind_front cut_at cut_at_last closed_by first_word behind_word up_to argument argument_in at_next_word argument_to_last ended step_in steps_in path_in hex_digit hex_pair hex_pairs text_in pairs_in fill_in target spot either synchrony connective whether input due acquired early_condition late_condition condition program_line request_line end_line clock_line settle_line browse_line label_line goto_line when_line define_process acquire_process acquire_activity purge_process define_activity delete_activity run link check cancel reset suspend resume put_container get_container delete_container define_input define_composite add_subevent remove_subevent delete_event test_event retrieve_reattach retrieve_subevent define_timer force_timer check_timer delete_timer plain_return return_ending abend rollback reads_by two_in marked_in civil_in moment_in days_of_months is_name_byte statements outside sections_of section_in sections_in
 items = refl
 
 -- two programs, and a request that runs the second; a label counts in its own block alone
@@ -79,7 +78,7 @@ order : in_full (codes "PROGRAM LEAF\nRETRIEVE REATTACH EVENT\nLABEL JOIN\nRETUR
                 [],
           ) ∷ [];
     })
-unfolding is_decimal number_in number_within behind_front cut_at cut_at_last closed_by first_word behind_word up_to argument argument_in at_next_word argument_to_last ended step_in steps_in path_in hex_digit hex_pair hex_pairs text_in pairs_in fill_in target spot either synchrony connective whether input due acquired early_condition late_condition condition program_line request_line end_line clock_line settle_line browse_line label_line goto_line when_line define_process acquire_process acquire_activity purge_process define_activity delete_activity run link check cancel reset suspend resume put_container get_container delete_container define_input define_composite add_subevent remove_subevent delete_event test_event retrieve_reattach retrieve_subevent define_timer force_timer check_timer delete_timer plain_return return_ending abend rollback reads_by in_process literal_or_fill put_in_process get_in_process two_in marked_in civil_in moment_in days_of_months is_name_byte statements outside sections_of section_in sections_in
+unfolding is_decimal number_in number_within behind_front cut_at cut_at_last closed_by first_word behind_word up_to argument argument_in at_next_word argument_to_last ended step_in steps_in path_in hex_digit hex_pair hex_pairs text_in pairs_in fill_in target spot either synchrony connective whether input due acquired early_condition late_condition condition program_line request_line end_line clock_line settle_line browse_line label_line goto_line when_line define_process acquire_process acquire_activity purge_process define_activity delete_activity run link check cancel reset suspend resume put_container get_container delete_container define_input define_composite add_subevent remove_subevent delete_event test_event retrieve_reattach retrieve_subevent define_timer force_timer check_timer delete_timer plain_return return_ending abend rollback reads_by two_in marked_in civil_in moment_in days_of_months is_name_byte statements outside sections_of section_in sections_in
 order = refl
 
 -- bad sessions: the text, the first bad line and the reason
@@ -120,7 +119,7 @@ bad_sessions =
     []
 
 bad_sessions_refused : map (λ (r : Row). in_full r.0) bad_sessions ≡ map (λ (r : Row). refused_at r.1 r.2) bad_sessions
-unfolding is_decimal number_in number_within behind_front cut_at cut_at_last closed_by first_word behind_word up_to argument argument_in at_next_word argument_to_last ended step_in steps_in path_in hex_digit hex_pair hex_pairs text_in pairs_in fill_in target spot either synchrony connective whether input due acquired early_condition late_condition condition program_line request_line end_line clock_line settle_line browse_line label_line goto_line when_line define_process acquire_process acquire_activity purge_process define_activity delete_activity run link check cancel reset suspend resume put_container get_container delete_container define_input define_composite add_subevent remove_subevent delete_event test_event retrieve_reattach retrieve_subevent define_timer force_timer check_timer delete_timer plain_return return_ending abend rollback reads_by in_process literal_or_fill put_in_process get_in_process two_in marked_in civil_in moment_in days_of_months is_name_byte statements outside sections_of section_in sections_in
+unfolding is_decimal number_in number_within behind_front cut_at cut_at_last closed_by first_word behind_word up_to argument argument_in at_next_word argument_to_last ended step_in steps_in path_in hex_digit hex_pair hex_pairs text_in pairs_in fill_in target spot either synchrony connective whether input due acquired early_condition late_condition condition program_line request_line end_line clock_line settle_line browse_line label_line goto_line when_line define_process acquire_process acquire_activity purge_process define_activity delete_activity run link check cancel reset suspend resume put_container get_container delete_container define_input define_composite add_subevent remove_subevent delete_event test_event retrieve_reattach retrieve_subevent define_timer force_timer check_timer delete_timer plain_return return_ending abend rollback reads_by two_in marked_in civil_in moment_in days_of_months is_name_byte statements outside sections_of section_in sections_in
 bad_sessions_refused = refl
 
 -- a text of one byte too many is refused whatever it says

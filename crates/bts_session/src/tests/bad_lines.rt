@@ -46,9 +46,7 @@ fn lines_outside_of_blocks_1(rt: HostRuntime) -> Result<(), Fail> {
             Word::Word,
         ),
         ("REQUEST T P\nEND X\nEND", 2, Word::Word),
-        ("PROGRAM A", 1, Word::NotYet),
         ("CLOCK 1970-01-01T00:00:00", 1, Word::NotYet),
-        ("SETTLE", 1, Word::NotYet),
         ("BROWSE", 1, Word::NotYet),
         (
             "BROWSE TYPE(ORDERS) PROCESS(P1) MODE(DORMANT) STATUS(NORMAL) SUSPENDED",
@@ -89,6 +87,8 @@ fn lines_outside_of_blocks_2(rt: HostRuntime) -> Result<(), Fail> {
         ("REQUEST 'T' P", 1, Word::Name),
         ("REQUEST T P(1)", 1, Word::Name),
         ("REQUEST T/U P", 1, Word::Name),
+        ("PROGRAM DFHA", 1, Word::Name),
+        ("PROGRAM ABCDEFGHI", 1, Word::Name),
         ("REQUEST T P\n* nothing\nEND\nREQUEST T DFH", 4, Word::Name),
     ];
     for (text, line, reason) in table {
@@ -247,63 +247,33 @@ fn words_too_many_2(rt: HostRuntime) -> Result<(), Fail> {
 
 /// Forms that are not let through yet, whatever else is wrong with the line.
 #[test]
-fn forms_that_are_not_let_through_1(rt: HostRuntime) -> Result<(), Fail> {
+fn forms_that_are_not_let_through(rt: HostRuntime) -> Result<(), Fail> {
     let lines = [
-        "LABEL L",
-        "GOTO L",
-        "WHEN RESP(NORMAL) GOTO L",
-        "WHEN EVENT(DFHINITIAL) GOTO L",
-        "WHEN STATUS(ABEND) GOTO L",
-        "WHEN DATA('x') GOTO L",
-        "WHEN FIRED GOTO L",
-        "ACQUIRE PROCESS",
-        "ACQUIRE ACTIVITYID(/1/2)",
-        "PURGE ACQPROCESS",
         "DEFINE ACTIVITY(A) TRANSID(T1) PROGRAM(B)",
         "DEFINE ACTIVITY(A) EVENT(E) TRANSID(T1) PROGRAM(B)",
         "DELETE ACTIVITY(A)",
         "RUN ACTIVITY(A) SYNCHRONOUS",
-        "RUN ACQPROCESS ASYNCHRONOUS INPUTEVENT(E)",
+        "RUN ACTIVITY(A) ASYNCHRONOUS",
+        "RUN ACTIVITY() ASYNCHRONOUS INPUTEVENT(E)",
+        "RUN ACQPROCESS SYNCHRONOUS",
+        "RUN ACQACTIVITY SYNCHRONOUS INPUTEVENT(DFHE)",
         "LINK ACQACTIVITY",
-        "CHECK ACTIVITY(A)",
+        "CHECK ACTIVITY(DFHX)",
         "CANCEL ACQPROCESS",
         "RESET ACQACTIVITY",
         "SUSPEND ACTIVITY(A)",
         "RESUME ACTIVITY(A)",
-        "PUT CONTAINER(C) ACQPROCESS FROM(LAST)",
-    ];
-    for line in lines {
-        assert!(rt; is_refused_inside(rt.alloc(), line, Word::NotYet), "{line}");
-    }
-    Ok(())
-}
-
-/// Forms that are not let through yet, whatever else is wrong with the line.
-#[test]
-fn forms_that_are_not_let_through_2(rt: HostRuntime) -> Result<(), Fail> {
-    let lines = [
-        "PUT CONTAINER(C) PROCESS FROM('x')",
-        "PUT CONTAINER(C) FROM('x')",
+        "PUT CONTAINER(C) ACTIVITY(A) FROM('x')",
+        "PUT CONTAINER() ACTIVITY() FROM(LAST)",
         "GET CONTAINER(C) ACTIVITY(A)",
-        "DELETE CONTAINER(C) ACQPROCESS",
-        "DEFINE INPUT EVENT(E)",
-        "DEFINE COMPOSITE EVENT(E) AND",
-        "DEFINE COMPOSITE EVENT(E) OR SUBEVENT(A) SUBEVENT(B)",
-        "ADD SUBEVENT(S) EVENT(E)",
-        "REMOVE SUBEVENT(S) EVENT(E)",
-        "DELETE EVENT(E)",
-        "TEST EVENT(E)",
-        "RETRIEVE REATTACH EVENT",
-        "RETRIEVE SUBEVENT EVENT(E)",
+        "DELETE CONTAINER(C) ACTIVITY(A)",
         "DEFINE TIMER(T) AFTER(60)",
         "DEFINE TIMER(T) EVENT(E) AT(1970-01-01T00:01:00)",
         "FORCE TIMER(T)",
         "FORCE TIMER(T) ACQPROCESS",
         "CHECK TIMER(T)",
         "DELETE TIMER(T)",
-        "RETURN ENDACTIVITY",
-        "ABEND ABCODE(C)",
-        "ROLLBACK",
+        "CLOCK x",
     ];
     for line in lines {
         assert!(rt; is_refused_inside(rt.alloc(), line, Word::NotYet), "{line}");
@@ -395,6 +365,42 @@ fn arguments_that_are_no_names(rt: HostRuntime) -> Result<(), Fail> {
     ];
     for line in lines {
         assert!(rt; is_refused_inside(rt.alloc(), line, Word::Name), "{line}");
+    }
+    Ok(())
+}
+
+/// Arguments that are no names or paths, and words that aren't in their table.
+#[test]
+fn arguments_that_are_no_names_or_known_words(rt: HostRuntime) -> Result<(), Fail> {
+    let table = [
+        ("LABEL DFHL", Word::Name),
+        ("GOTO DFHL", Word::Name),
+        ("WHEN FIRED GOTO ABCDEFGHIJKLMNOPQ", Word::Name),
+        ("WHEN EVENT(DFHX) GOTO L", Word::Name),
+        ("WHEN RESP(normal) GOTO L", Word::Known),
+        ("WHEN STATUS(FINE) GOTO DFHL", Word::Known),
+        ("WHEN DATA(x) GOTO L", Word::Literal),
+        ("ACQUIRE ACTIVITYID()", Word::Name),
+        ("ACQUIRE ACTIVITYID(/0)", Word::Name),
+        ("ACQUIRE ACTIVITYID(/1/)", Word::Name),
+        ("RUN ACQPROCESS ASYNCHRONOUS INPUTEVENT(DFHX)", Word::Name),
+        ("DELETE CONTAINER(DFHX)", Word::Name),
+        ("PUT CONTAINER(C) PROCESS FROM(x)", Word::Literal),
+        ("DEFINE INPUT EVENT()", Word::Name),
+        ("DEFINE COMPOSITE EVENT(DFHX) AND", Word::Name),
+        (
+            "DEFINE COMPOSITE EVENT(E) OR SUBEVENT(A) SUBEVENT(DFHX)",
+            Word::Name,
+        ),
+        ("ADD SUBEVENT(DFHINITIAL) EVENT(E)", Word::Name),
+        ("REMOVE SUBEVENT(S) EVENT(DFHX)", Word::Name),
+        ("DELETE EVENT(DFHINITIAL)", Word::Name),
+        ("TEST EVENT(DFHINITIAL)", Word::Name),
+        ("RETRIEVE SUBEVENT EVENT()", Word::Name),
+        ("ABEND ABCODE(ABCDE)", Word::Name),
+    ];
+    for (line, reason) in table {
+        assert!(rt; is_refused_inside(rt.alloc(), line, reason), "{line}");
     }
     Ok(())
 }
@@ -508,20 +514,82 @@ fn the_first_line_and_reason(rt: HostRuntime) -> Result<(), Fail> {
         ("* one\r\n\r\n   \r\nHELLO\r\n", 4, Word::Word),
         ("REQUEST T P\nHELLO\nEND\nREQUEST T P", 2, Word::Word),
         ("CLOCK x", 1, Word::NotYet),
-        ("REQUEST T P\nCLOCK x\nEND", 2, Word::NotYet),
-        ("ROLLBACK", 1, Word::NotYet),
-        ("PROGRAM DFH", 1, Word::NotYet),
-        ("PROGRAM A\nPROGRAM A\nEND", 1, Word::NotYet),
-        ("REQUEST T P\nRETURN ENDACTIVITY\nEND", 2, Word::NotYet),
-        ("REQUEST T P\nGOTO X\nEND", 2, Word::NotYet),
-        ("REQUEST T P\nACQUIRE ACTIVITYID(x)\nEND", 2, Word::NotYet),
         ("BROWSE MODE(ACTIVE)", 1, Word::NotYet),
         (
-            "REQUEST T P\nPUT CONTAINER(C) FROM(x)\nEND",
+            "REQUEST T P\nDEFINE TIMER(T) AFTER(x)\nEND",
             2,
             Word::NotYet,
         ),
-        ("REQUEST T P\nGET CONTAINER() PROCESS\nEND", 2, Word::NotYet),
+        ("ROLLBACK", 1, Word::Place),
+        ("PROGRAM A\nROLLBACK\nEND", 2, Word::Place),
+        ("REQUEST T P\nRETURN ENDACTIVITY\nEND", 2, Word::Place),
+        ("SETTLE\nEND", 2, Word::Place),
+        ("PROGRAM A\nSETTLE\nEND", 2, Word::Place),
+        ("PROGRAM A\nPROGRAM DFH\nEND", 2, Word::Place),
+        ("CHECK ACTIVITY(A)", 1, Word::NotYet),
+        ("CHECK ACQPROCESS", 1, Word::Place),
+    ];
+    for (text, line, reason) in table {
+        assert!(rt; is_refused(rt.alloc(), text, line, reason), "{text}");
+    }
+    Ok(())
+}
+
+/// Programs and labels that stand twice, labels that aren't there, and programs that are never closed.
+#[test]
+fn programs_and_labels_1(rt: HostRuntime) -> Result<(), Fail> {
+    let table = [
+        ("PROGRAM A\nGOTO X\nEND", 2, Word::Label),
+        ("PROGRAM A\nWHEN FIRED GOTO X\nEND", 2, Word::Label),
+        ("REQUEST T P\nGOTO X\nEND", 2, Word::Label),
+        (
+            "PROGRAM A\nLABEL X\nEND\nREQUEST T P\nGOTO X\nEND",
+            5,
+            Word::Label,
+        ),
+        ("PROGRAM A\nLABEL L\nLABEL L\nGOTO X\nEND", 3, Word::Twice),
+        (
+            "PROGRAM A\nLABEL L\nGOTO M\nLABEL L\nLABEL M\nEND",
+            4,
+            Word::Twice,
+        ),
+        ("PROGRAM A\nGOTO X\nHELLO\nEND", 2, Word::Label),
+        ("PROGRAM A\nGOTO X\nHELLO\nLABEL X\nEND", 3, Word::Word),
+        ("PROGRAM A\nGOTO X\nLABEL X Y\nEND", 2, Word::Label),
+        (
+            "PROGRAM A\nGOTO X\nCHECK TIMER(T)\nLABEL X\nEND",
+            3,
+            Word::NotYet,
+        ),
+        ("PROGRAM A\nGOTO X\nEND\nLABEL X", 2, Word::Label),
+        ("REQUEST T P\nEND\nLABEL L", 3, Word::Place),
+    ];
+    for (text, line, reason) in table {
+        assert!(rt; is_refused(rt.alloc(), text, line, reason), "{text}");
+    }
+    Ok(())
+}
+
+/// Programs and labels that stand twice, labels that aren't there, and programs that are never closed.
+#[test]
+fn programs_and_labels_2(rt: HostRuntime) -> Result<(), Fail> {
+    let table = [
+        ("PROGRAM A\nEND\nPROGRAM A\nEND", 3, Word::Twice),
+        ("PROGRAM A\nEND\nPROGRAM A", 3, Word::Twice),
+        ("PROGRAM A\nEND\nPROGRAM A\nHELLO\nEND", 3, Word::Twice),
+        (
+            "PROGRAM A\nEND\n\n* once more\n  PROGRAM   A  \r\nEND",
+            5,
+            Word::Twice,
+        ),
+        ("PROGRAM A\nHELLO\nEND\nPROGRAM A\nEND", 2, Word::Word),
+        ("PROGRAM A", 1, Word::Open),
+        ("PROGRAM A\nHELLO", 1, Word::Open),
+        ("PROGRAM A\nRETURN\nPROGRAM B\nRETURN", 1, Word::Open),
+        ("SETTLE\nPROGRAM A\nRETURN\nEND\nREQUEST T P", 5, Word::Open),
+        ("PROGRAM A\nPROGRAM B\nEND", 2, Word::Place),
+        ("PROGRAM A\nPROGRAM B\nEND\nEND", 2, Word::Place),
+        ("PROGRAM A\nCLOCK x\nEND", 2, Word::NotYet),
     ];
     for (text, line, reason) in table {
         assert!(rt; is_refused(rt.alloc(), text, line, reason), "{text}");

@@ -1,6 +1,10 @@
-use Rattle.std.proofs.Common.{sym, ◌∙◌, arith}
-use Rattle.bts_script.specs.Built.{is_built}
+use Rattle.std.proofs.Common.{sym, ◌∙◌, arith, Ok}
+use Rattle.bts_script.specs.Blocks.{by_table}
 use Rattle.bts_script.proofs.FirstLines.{few_lines}
+use Rattle.bts_script.proofs.Today.{given_today}
+use Rattle.bts_session.specs.Sessions.{session_of}
+use Rattle.bts_session.specs.Today.{IsSessionOfToday}
+use Rattle.bts_session.proofs.Today.{session_today}
 use Rattle.bts_session.proofs.Steps.{from_first, from_nothing}
 use Rattle.bts_session.proofs.reading.read_session.Goals as goal
 
@@ -8,9 +12,12 @@ pub loop-line-init : goal.loop-line-init
 loop-line-init c =
     let lines = few_lines c.args.bytes.now in
     record {
-      read = rw (c.new.ensures, c.new-2.ensures) (from_first is_built c.args.bytes.now c.if-bytes-gt-TEXT_LIMIT.false);
+      read = rw (c.new.ensures, c.new-2.ensures) (from_first by_table c.args.bytes.now c.if-bytes-gt-TEXT_LIMIT.false);
       number = omega arith;
     }
 
-pub returns : goal.returns
-returns c = sym c.loop-line.invariant.read ∙ rw c.in_default.ensures.lines (from_nothing is_built c.loop-line.session c.loop-line.left.number)
+pub returns-clause-said : goal.returns-clause-said
+returns-clause-said c = sym c.loop-line.invariant.read ∙ rw c.in_default.ensures.lines (from_nothing by_table c.loop-line.session c.loop-line.left.number)
+
+pub returns-clause-today : goal.returns-clause-today
+returns-clause-today c = given_today IsSessionOfToday (Ok c.loop-line.session) (session_of c.args.bytes.now) (returns-clause-said c) (session_today c.args.bytes.now)

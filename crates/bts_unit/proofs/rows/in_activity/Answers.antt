@@ -5,8 +5,8 @@ use Rattle.bts_rows.specs.Rows.{act_at}
 use Rattle.bts_unit.proofs.InFrames.{of_activity, out_of_frame}
 use Rattle.bts_unit.proofs.rows.in_activity.Goals as goal
 
-pub returns-then-number-le4-clause-row : goal.returns-then-number-le4-clause-row
-returns-then-number-le4-clause-row c =
+pub returns-then-is_of_requests-clause-row : goal.returns-then-is_of_requests-clause-row
+returns-then-is_of_requests-clause-row c =
     let s = c.args.scope.now.process in
     refuses c.refused.result (s, c.args.held) _ _ (out_of_frame c.args.path.now c.args.held 1 c.args.moment s c.args.command.now (grind arith)) c.refused.ensures refl
 

@@ -1,8 +1,11 @@
-use Rattle.std.proofs.Common.{◌++◌, [], ◌∷◌, is_none, sym, ap, ◌∙◌, subst}
+use Rattle.std.proofs.Common.{◌≤◌, ◌+◌, length, ◌++◌, [], ◌∷◌, is_none, sym, ap, ◌∙◌, subst}
 use Rattle.bts_command.specs.declared.command.Call.{Call}
 use Rattle.bts_unit.specs.Calls.{call}
 use Rattle.bts_unit.specs.Replays.{IsWorkOf, behind_calls}
-use Rattle.bts_unit.proofs.Replayed.{made, played}
+use Rattle.bts_unit.specs.Soundness.{IsSoundLone, IsSoundUnit, IsSoundWithin}
+use Rattle.bts_unit.proofs.BoundedUnits.{calls_rise, stays_lone}
+use Rattle.bts_unit.proofs.Replayed.{few_frames, made, played}
+use Rattle.bts_unit.proofs.SoundUnits.{stays_sound}
 use Rattle.bts_unit.proofs.unit.Unit.call.Goals as goal
 
 pub invariant_of-self-2 : goal.invariant_of-self-2
@@ -22,3 +25,21 @@ returns-clause-ok c =
     ap (λ xs. behind_calls u.kind c.perform.new.work xs u.stopped) (c.push_reserved.ensures.items ∙ ap (λ xs. xs ++ x ∷ []) c.in_ok-reserve.ensures.items)
     ∙ played u.kind u.work u.calls.items u.stopped c.self.invariant goes_on c.perform.new.work x c.in_ok-reply.ensures.goes_on
     ∙ ap (λ v. (call v c.args.command).1) c.self.view_is
+
+pub returns-clause-kept : goal.returns-clause-kept
+returns-clause-kept c = λ sound.
+    let u = c.self.inside in
+    let few = subst (λ v. length v.frames ≤ 1) c.self.view_is (few_frames u.work u.calls.items u.stopped _ c.self.invariant) in
+    subst IsSoundUnit (sym (returns-clause-ok c)) (stays_sound c.args.self.now c.args.command few c.requires.given c.requires.one_frame sound)
+
+pub returns-clause-within : goal.returns-clause-within
+returns-clause-within c = λ n within.
+    let u = c.self.inside in
+    let few = subst (λ v. length v.frames ≤ 1) c.self.view_is (few_frames u.work u.calls.items u.stopped _ c.self.invariant) in
+    subst (λ v. IsSoundWithin (n + length v.calls) v) (sym (returns-clause-ok c)) (calls_rise n c.args.self.now c.args.command few c.requires.given c.requires.one_frame within)
+
+pub returns-clause-lone : goal.returns-clause-lone
+returns-clause-lone c = λ none lone.
+    let u = c.self.inside in
+    let few = subst (λ v. length v.frames ≤ 1) c.self.view_is (few_frames u.work u.calls.items u.stopped _ c.self.invariant) in
+    subst IsSoundLone (sym (returns-clause-ok c)) (stays_lone c.args.self.now c.args.command few c.requires.given c.requires.one_frame none lone)

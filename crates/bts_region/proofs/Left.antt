@@ -1,0 +1,190 @@
+-- What a unit leaves of the process that it began with.
+use Rattle.std.proofs.Common.{◌≡◌, ◌≤◌, ℕ, ◌+◌, Bool, true, false, List, [], ◌∷◌, length, Option, Some, None, refl, sym, ap, ◌∙◌, subst, cond, arith, true≢false}
+use Rattle.std.specs.List.{AllByRecursion}
+use Rattle.bts_names.specs.Names.{ActivityPath, Name}
+use Rattle.bts_command.specs.Given.{IsGiven}
+use Rattle.bts_command.specs.declared.command.Call.{Call}
+use Rattle.bts_command.specs.declared.command.Command.{Command}
+use Rattle.bts_command.specs.declared.ended.End.{End}
+use Rattle.bts_command.specs.declared.ended.End.TheVariants.{Commit, Rollback, Abend}
+use Rattle.bts_command.specs.declared.ended.UnitKind.{UnitKind}
+use Rattle.bts_command.specs.declared.ended.UnitKind.TheVariants as unit
+use Rattle.bts_rows.specs.Bounds.{is_lone, is_within}
+use Rattle.bts_rows.proofs.Bounds.{within_more}
+use Rattle.bts_tree.specs.Processes.{Process}
+use Rattle.bts_tree.specs.Soundness.{IsSoundInFrames}
+use Rattle.bts_unit.specs.Calls.{commands_of, run}
+use Rattle.bts_unit.specs.Ends.{abended, abended_whole, first_of}
+use Rattle.bts_unit.specs.Frames.{OpenFrame, UnitOfWork, path_of, start}
+use Rattle.bts_unit.specs.OneFrame.{is_of_one_frame, may_begin}
+use Rattle.bts_unit.specs.Playing.{begun, budgeted, budgeted_by, is_budget}
+use Rattle.bts_unit.proofs.BoundedUnits.{AreAsked, abended_by, any, key_rises, left_by_abend, lone, lone_rises, makes_none, of_key, within, within_rises}
+use Rattle.bts_unit.proofs.Rising.{Rises}
+use Rattle.bts_interp.specs.Budgets.{call_limit}
+use Rattle.bts_interp.specs.Jobs as jobs
+use Rattle.bts_interp.specs.NextCalls.{unit_behind}
+use Rattle.bts_interp.specs.Ready.{IsRunnable, MayBeCalled}
+use Rattle.bts_interp.specs.Talks.{Follows, IsTalk}
+use Rattle.bts_interp.specs.Texts.{Texts}
+use Rattle.bts_interp.proofs.Executable.{may_in}
+use Rattle.bts_interp.proofs.Followed.{follows_may}
+use Rattle.bts_interp.proofs.Opening.{Fits, IsFit, fit_behind_all}
+
+-- ---- the end of a unit
+
+-- the code with which all frames abend, where the end of the unit is that of its limits
+abbrev code_if : Bool → Name → Option Name
+code_if true code = Some code
+code_if false code = None
+
+abbrev code_by : Name → Option End → Option Name
+code_by code (Some e) = None
+code_by code None = code_if (is_budget code) code
+
+abbrev stopping : End → Option End → Option Name
+stopping Commit o = None
+stopping Rollback o = None
+stopping (Abend code) o = code_by code o
+
+module _ (u : UnitOfWork) where
+  by_test : (b : Bool) (code : Name) → cond b (abended_whole code u) u ≡ abended_by (code_if b code) u
+  by_test true code = refl
+  by_test false code = refl
+
+  by_end : (o : Option End) (code : Name) → budgeted_by code o u ≡ abended_by (code_by code o) u
+  by_end (Some e) code = refl
+  by_end None code = by_test (is_budget code) code
+
+  stops : (e : End) → budgeted e u ≡ abended_by (stopping e u.end) u
+  stops Commit = refl
+  stops Rollback = refl
+  stops (Abend code) = by_end u.end code
+
+  abbrev whole : Name → List OpenFrame → UnitOfWork
+  whole code frames = elim frames [ [] ↦ u | f ∷ fs ↦ abended (first_of f fs) [] code u ]
+
+  no_frames : (code : Name) (frames : List OpenFrame) → u.frames ≡ frames → (whole code frames).frames ≡ []
+  no_frames code [] e = e
+  no_frames code (f ∷ fs) e = refl
+
+  same_calls : (code : Name) (frames : List OpenFrame) → (whole code frames).calls ≡ u.calls
+  same_calls code [] = refl
+  same_calls code (f ∷ fs) = refl
+
+  calls_kept : (o : Option Name) → (abended_by o u).calls ≡ u.calls
+  calls_kept None = refl
+  calls_kept (Some code) = same_calls code u.frames
+
+  closed_by : (frames : List OpenFrame) (o : Option End) (e : End) → Fits frames o → o ≡ Some e → frames ≡ []
+  closed_by [] o e fit h = refl
+  closed_by (f ∷ fs) o e fit h = let q : None ≡ Some e = sym fit ∙ h in cc
+
+  frames_gone : (o : Option Name) (e : End) → IsFit u → (abended_by o u).end ≡ Some e → (abended_by o u).frames ≡ []
+  frames_gone None e fit h = closed_by u.frames u.end e fit h
+  frames_gone (Some code) e fit h = no_frames code u.frames refl
+
+-- ---- commands of executable texts
+
+as_asked : (Asked : Option ActivityPath → Command → Type 0) → ((at : Option ActivityPath) (c : Command) → MayBeCalled c → Asked at c)
+    → (kind : UnitKind) (cs : List Command) → AllByRecursion MayBeCalled cs → AreAsked Asked kind cs
+as_asked Asked ask kind [] h = tt
+as_asked Asked ask kind (c ∷ cs) h = (((h.0.given, ask (path_of kind) c h.0), may_in (path_of kind) c h.0), as_asked Asked ask kind cs h.1)
+
+makes_none_may : (at : Option ActivityPath) (c : Command) → MayBeCalled c → makes_none at c
+makes_none_may None c m = refl
+makes_none_may (Some p) c m = m.makes_none
+
+-- ---- a unit that follows its texts to an end
+
+module _ (Q : ℕ → Process → Type 0) (Asked : Option ActivityPath → Command → Type 0) (rises : Rises Q Asked)
+    (ask : (at : Option ActivityPath) (c : Command) → MayBeCalled c → Asked at c) (n : ℕ) where
+  module _ (kind : UnitKind) (moment : ℕ) (base : Process) (texts : Texts) (calls : List Call) (e : End) (r : IsRunnable kind base texts) (h : Q n base) where
+    -- the unit behind its calls, and at its end
+    abbrev u : UnitOfWork
+    u = run (start kind moment base) (commands_of calls)
+
+    abbrev stop : Option Name
+    stop = stopping e u.end
+
+    abbrev at_end : UnitOfWork
+    at_end = abended_by stop u
+
+    module _ (f : Follows texts (start kind moment base) calls) (same : at_end.calls ≡ calls) (ended : at_end.end ≡ Some e) where
+      few : n + length u.calls ≤ n + 500
+      few = let made : length u.calls ≤ 500 = subst (λ l. length l ≤ 500) (sym same ∙ calls_kept u stop) f.count in omega arith
+
+      left_of : IsSoundInFrames [] at_end.now.process × Q (n + length u.calls) at_end.now.process
+      left_of =
+          left_by_abend Q Asked rises n kind moment base (commands_of calls) r.begins r.sound h
+          (as_asked Asked ask kind (commands_of calls) (follows_may texts (start kind moment base) r.texts calls f)) stop
+          (frames_gone u stop e (fit_behind_all (start kind moment base) (commands_of calls) refl) ended)
+
+-- ---- a result that its texts give
+
+-- what a rising bound leaves of a job that was done
+module _ (Q : ℕ → Process → Type 0) (Asked : Option ActivityPath → Command → Type 0) (rises : Rises Q Asked)
+    (ask : (at : Option ActivityPath) (c : Command) → MayBeCalled c → Asked at c) (n : ℕ) (d : jobs.Done) (r : IsRunnable d.job.unit d.job.base d.job.texts) (i : jobs.IsDone d) (h : Q n d.job.base) where
+  abbrev Left : Type 0
+  Left = IsSoundInFrames [] d.after × (m : ℕ) × (m ≤ n + 500) × Q m d.after
+
+  module _ (kind : UnitKind) (runnable : IsRunnable kind d.job.base d.job.texts) (talk : IsTalk d.job.texts (start kind d.job.moment d.job.base) d.calls d.end) where
+    abbrev last : UnitOfWork
+    last = unit_behind (start kind d.job.moment d.job.base) d.calls
+
+    of_kind : (budgeted d.end last).calls ≡ d.calls → (budgeted d.end last).now.process ≡ d.after → (budgeted d.end last).end ≡ Some d.end → Left
+    unfolding unit_behind
+    of_kind c a e =
+        let s : budgeted d.end last ≡ abended_by (stopping d.end last.end) last = stops last d.end in
+        let same : (abended_by (stopping d.end last.end) last).calls ≡ d.calls = ap (λ (v : UnitOfWork). v.calls) (sym s) ∙ c in
+        let ended : (abended_by (stopping d.end last.end) last).end ≡ Some d.end = ap (λ (v : UnitOfWork). v.end) (sym s) ∙ e in
+        let x = left_of Q Asked rises ask n kind d.job.moment d.job.base d.job.texts d.calls d.end runnable h talk.follows same ended in
+        let q : (abended_by (stopping d.end last.end) last).now.process ≡ d.after = ap (λ (v : UnitOfWork). v.now.process) (sym s) ∙ a in (
+          subst (IsSoundInFrames []) q x.0,
+          n + length last.calls,
+          few Q Asked rises ask n kind d.job.moment d.job.base d.job.texts d.calls d.end runnable h talk.follows same ended,
+          subst (Q (n + length last.calls)) q x.1,
+        )
+
+  of_start : (kind : UnitKind) → d.job.unit ≡ kind → jobs.unit_of d.job ≡ start kind d.job.moment d.job.base → IsTalk d.job.texts (jobs.unit_of d.job) d.calls d.end → Left
+  of_start kind same b t =
+      of_kind kind
+      (subst (λ k. IsRunnable k d.job.base d.job.texts) same r)
+      (subst (λ v. IsTalk d.job.texts v d.calls d.end) b t)
+      (subst (λ v. (budgeted d.end (unit_behind v d.calls)).calls ≡ d.calls) b i.calls)
+      (subst (λ v. (budgeted d.end (unit_behind v d.calls)).now.process ≡ d.after) b i.after)
+      (subst (λ v. (budgeted d.end (unit_behind v d.calls)).end ≡ Some d.end) b i.end)
+
+  -- only requests and activations begin
+  never : (kind : UnitKind) → d.job.unit ≡ kind → may_begin kind d.job.base ≡ false → Left
+  never kind same refused = absurd (true≢false (sym r.begins ∙ ap (λ k. may_begin k d.job.base) same ∙ refused))
+
+  by_kind : (kind : UnitKind) → d.job.unit ≡ kind → Left
+  by_kind (unit.Request item key) same =
+      of_start (unit.Request item key) same (ap (λ k. begun k d.job.moment d.job.base) same) (subst (λ k. jobs.FollowsTexts k d) same i.texts)
+  by_kind (unit.Activation key path) same =
+      of_start (unit.Activation key path) same (ap (λ k. begun k d.job.moment d.job.base) same) (subst (λ k. jobs.FollowsTexts k d) same i.texts)
+  by_kind (unit.Notice key path) same = never (unit.Notice key path) same refl
+  by_kind (unit.Expiry key path timer) same = never (unit.Expiry key path timer) same refl
+  by_kind (unit.Clock item) same = never (unit.Clock item) same refl
+  by_kind (unit.Settle item) same = never (unit.Settle item) same refl
+  by_kind (unit.Browse item) same = never (unit.Browse item) same refl
+
+  left : Left
+  left = by_kind d.job.unit refl
+
+any_may : (at : Option ActivityPath) (c : Command) → MayBeCalled c → any at c
+any_may at c m = tt
+
+module _ (d : jobs.Done) (r : IsRunnable d.job.unit d.job.base d.job.texts) (i : jobs.IsDone d) where
+  pub done_sound : IsSoundInFrames [] d.after
+  done_sound = (left (of_key d.job.base.key) any (key_rises d.job.base.key) any_may 0 d r i refl).0
+
+  pub done_key : d.after.key ≡ d.job.base.key
+  done_key = (left (of_key d.job.base.key) any (key_rises d.job.base.key) any_may 0 d r i refl).3
+
+  -- no more than one number a call
+  pub done_within : (n : ℕ) → is_within n d.job.base ≡ true → is_within (n + 500) d.after ≡ true
+  done_within n w = let x = left within any within_rises any_may n d r i w in within_more x.1 (n + 500) d.after x.3 x.2
+
+  pub done_lone : is_lone d.job.base ≡ true → is_lone d.after ≡ true
+  done_lone l = (left lone makes_none lone_rises makes_none_may 0 d r i l).3

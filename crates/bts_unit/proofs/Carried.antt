@@ -1,0 +1,297 @@
+-- What single commands keep, and the openings and the ends of frames, a unit with one frame keeps.
+use Rattle.std.proofs.Common.{◌≡◌, ℕ, ◌+◌, ◌≤◌, Bool, true, false, not, ◌&&◌, ◌||◌, List, [], ◌∷◌, ◌++◌, length, Option, Some, None, is_none, nat_le, option_map, option_to_list, unwrap_or, refl, sym, ap, subst, arith}
+use Rattle.std.specs.List.{AllByRecursion}
+use Rattle.std.proofs.lemmas.Bool.{and_parts}
+use Rattle.std.proofs.lemmas.List.{length_push}
+use Rattle.bts_names.specs.Answer.{Answer, refused, done, left_by, mapped}
+use Rattle.bts_names.specs.Names.{Name, ActivityPath}
+use Rattle.bts_names.specs.declared.reply.Leaving.{Leaving}
+use Rattle.bts_names.specs.declared.reply.Leaving.TheVariants as leaving
+use Rattle.bts_names.specs.declared.reply.Resp.TheVariants as resp
+use Rattle.bts_names.specs.declared.reply.Reason.TheVariants as reason
+use Rattle.bts_names.specs.declared.state.Status.TheVariants as status
+use Rattle.bts_command.specs.Numbers.{command_number}
+use Rattle.bts_command.specs.declared.command.Call.{Call}
+use Rattle.bts_command.specs.declared.command.Command.{Command}
+use Rattle.bts_command.specs.declared.command.Command.TheVariants as command
+use Rattle.bts_command.specs.declared.ended.End.{End}
+use Rattle.bts_command.specs.declared.ended.End.TheVariants.{Commit, Rollback, Abend}
+use Rattle.bts_command.specs.declared.ended.UnitKind.{UnitKind}
+use Rattle.bts_command.specs.declared.ended.UnitKind.TheVariants as unit
+use Rattle.bts_tree.specs.declared.activity.Activity.{Activity}
+use Rattle.bts_tree.specs.Activities.{by_cause, has_entries, is_dormant, is_initial, is_ready}
+use Rattle.bts_tree.specs.Modes.{waits}
+use Rattle.bts_tree.specs.Processes.{Process, activity_at, complete, edited}
+use Rattle.bts_rows.specs.declared.held.Held.{Held}
+use Rattle.bts_rows.specs.FamilyRows.{resets}
+use Rattle.bts_rows.specs.Rows.{act_at, answer, request_in}
+use Rattle.bts_rows.specs.Targets.{Here}
+use Rattle.bts_unit.specs.Calls.{answered, call, called_by, called_in, done_in, is_retrieval, opened_by, opens_on, run, says_ran, stepped, with_call}
+use Rattle.bts_unit.specs.Ends.{abended, abended_whole, closed, completed_by_abend, first_of, left, leaving_of, returned, returned_at, rolled_back}
+use Rattle.bts_unit.specs.Frames.{OpenFrame, UnitOfWork, activated, first_frame, here, open_paths, opened_at, path_of, start}
+use Rattle.bts_unit.specs.OneFrame.{StandsIn, is_of_one_frame, is_of_requests, may_begin, names_acquired}
+use Rattle.bts_unit.specs.Replays.{top_path}
+use Rattle.bts_unit.specs.Soundness.{AreKept, Holds, IsKept, may_open, paths_of}
+use Rattle.bts_unit.specs.Standings.{Standing, behind, moved}
+use Rattle.bts_unit.proofs.InFrames.{of_activity, out_of_frame}
+use Rattle.bts_unit.proofs.Shown.{behind_process, opens_none}
+
+-- what is said of processes in open frames, with a number that may be that of the commands so far: it holds behind
+-- one command more of those that are asked for, where a frame opens, where its activity waits and where it ends
+pub record Carries (P : ℕ → List ActivityPath → Process → Type 0) (Asked : Option ActivityPath → Command → Type 0) : Type 0 where
+  pub later : (n : ℕ) (frames : List ActivityPath) (s : Process) → P n frames s → P (n + 1) frames s
+  pub opens : (n : ℕ) (p : ActivityPath) (s : Process) → P n [] s → may_open (Some p) s ≡ true → P n (p ∷ []) (activated p s)
+  pub rests : (n : ℕ) (p : ActivityPath) (s : Process) → P n (p ∷ []) s → P n [] (edited p (by_cause waits None) s)
+  pub finishes : (n : ℕ) (p : ActivityPath) (s : Process) → P n (p ∷ []) s → P n [] (complete p status.Normal None s)
+  pub abends : (n : ℕ) (p : ActivityPath) (code : Name) (s : Process) → P n [] s → may_open (Some p) s ≡ true → P n [] (complete p status.Abend (Some code) s)
+  pub acts : (n : ℕ) (p : ActivityPath) (now : ℕ) (s : Process) (c : Command) → Asked (Some p) c → P n (p ∷ []) s → P (n + 1) (p ∷ []) (left_by s (act_at p now s c))
+  pub requests : (n : ℕ) (held : Held) (now : ℕ) (s : Process) (c : Command) → Asked None c → resets c ≡ false → P n [] s → P (n + 1) [] (left_by (s, held) (request_in held 1 now s c)).0
+
+-- ---- frames
+
+paths_case : (at : Option ActivityPath) (f : OpenFrame) → f.at ≡ at → paths_of (f ∷ []) ≡ option_to_list at
+paths_case None f e = rw e refl
+paths_case (Some p) f e = rw e refl
+
+one_path : (f : OpenFrame) → paths_of (f ∷ []) ≡ option_to_list f.at
+one_path f = paths_case f.at f refl
+
+few_case : (fs : List OpenFrame) → length fs ≤ 1 → StandsIn (top_path fs) fs
+few_case [] h = tt
+few_case (f ∷ []) h = refl
+few_case (f ∷ g ∷ fs) h = omega arith
+
+pub stands_in : (u : UnitOfWork) → length u.frames ≤ 1 → StandsIn (top_path u.frames) u.frames
+stands_in u h = few_case u.frames h
+
+ready_opens : (o : Option Activity) → unwrap_or (option_map is_ready o) false ≡ true → unwrap_or (option_map (λ a. is_initial a || is_dormant a) o) false ≡ true
+ready_opens None h = cc
+ready_opens (Some a) h = (and_parts (is_initial a || is_dormant a) (not a.suspended) (and_parts ((is_initial a || is_dormant a) && not a.suspended) (has_entries a) h).0).0
+
+begins_open : (kind : UnitKind) (s : Process) → may_begin kind s ≡ true → may_open (path_of kind) s ≡ true
+begins_open (unit.Activation key p) s h = ready_opens (activity_at p s) h
+begins_open _ s h = refl
+
+-- ---- commands by their rows
+
+no_reset : (a b : Bool) → (a && not b) ≡ true → b ≡ false
+no_reset true true h = cc
+no_reset true false h = refl
+no_reset false b h = cc
+
+from_fourteen : (n : ℕ) (a b : Bool) → nat_le n 13 ≡ b → (a || nat_le 14 n) ≡ true → a ≡ false → b ≡ false
+from_fourteen n true b d h f = cc
+from_fourteen n false b d h f = grind arith
+
+past_four_by : (a b : Bool) → a || b ≡ false → a ≡ false
+past_four_by true b h = cc
+past_four_by false b h = refl
+
+past_four : (c : Command) → is_of_requests c ≡ false → nat_le (command_number c) 4 ≡ false
+past_four c h = past_four_by (nat_le (command_number c) 4) (is_none (opens_on c) && names_acquired c) h
+
+-- the process that an answer leaves
+abbrev process_by : Process → Held → Answer (Process × Held) → Process
+process_by s h a = (left_by (s, h) a).0
+
+left_of : (h : Held) (s : Process) (a : Answer Process) → process_by s h (mapped (λ x. (x, h)) a) ≡ left_by s a
+left_of h s (refused r why) = refl
+left_of h s (done v x) = refl
+
+module _ (P : ℕ → List ActivityPath → Process → Type 0) (Asked : Option ActivityPath → Command → Type 0) (carries : Carries P Asked) where
+  -- ---- one more
+
+  later_one : (n : ℕ) (at : Option ActivityPath) (below : List OpenFrame) (o : Option Standing) → IsKept (P n) at below o → IsKept (P (n + 1)) at below o
+  later_one n at below None h = h
+  later_one n at below (Some before) h = (carries.later n (paths_of below) before.process h.0, h.1)
+
+  later_kept : (n : ℕ) (fs : List OpenFrame) → AreKept (P n) fs → AreKept (P (n + 1)) fs
+  later_kept n [] h = tt
+  later_kept n (f ∷ fs) h = (later_one n f.at fs f.kept h.0, later_kept n fs h.1)
+
+  pub later : (n : ℕ) (u : UnitOfWork) → Holds (P n) u → Holds (P (n + 1)) u
+  later n u h = record { process = carries.later n (open_paths u) u.now.process h.process; kept = later_kept n u.frames h.kept }
+
+  -- ---- the beginning
+
+  begins_case : (n : ℕ) (at : Option ActivityPath) (s : Process) → may_open at s ≡ true → P n [] s → P n (paths_of (first_frame at s ∷ [])) (opened_at at s)
+  begins_case n None s m h = h
+  begins_case n (Some p) s m h = carries.opens n p s h m
+
+  pub starts : (n : ℕ) (kind : UnitKind) (moment : ℕ) (s : Process) → may_begin kind s ≡ true → P n [] s → Holds (P n) (start kind moment s)
+  starts n kind moment s b h =
+      let m = begins_open kind s b in
+      record { process = begins_case n (path_of kind) s m h; kept = ((h, m), tt) }
+
+  -- ---- ends
+
+  abended_case : (n : ℕ) (at : Option ActivityPath) (code : Name) (o : Option Standing) (now : Standing) → IsKept (P n) at [] o → P n [] (completed_by_abend at code (unwrap_or o now)).process
+  unfolding moved
+  abended_case n at code None now h = cc
+  abended_case n None code (Some before) now h = h.0
+  abended_case n (Some p) code (Some before) now h = carries.abends n p code before.process h.0 h.1
+
+  whole_kept : (n : ℕ) (f : OpenFrame) (fs : List OpenFrame) → AreKept (P n) (f ∷ fs) → let g = first_of f fs in IsKept (P n) g.at [] g.kept
+  whole_kept n f [] h = h.0
+  whole_kept n f (g ∷ fs) h = whole_kept n g fs h.1
+
+  stops_case : (n : ℕ) (code : Name) (u : UnitOfWork) (fs : List OpenFrame) → let v : UnitOfWork = record u { frames = fs } in Holds (P n) v → Holds (P n) (abended_whole code v)
+  stops_case n code u [] h = h
+  stops_case n code u (f ∷ fs) h = let g = first_of f fs in record { process = abended_case n g.at code g.kept u.now (whole_kept n f fs h.kept); kept = tt }
+
+  pub stops : (n : ℕ) (code : Name) (u : UnitOfWork) → Holds (P n) u → Holds (P n) (abended_whole code u)
+  stops n code u h = stops_case n code u u.frames h
+
+  -- the process of a unit that has ended
+  pub behind_end : (n : ℕ) (u : UnitOfWork) → u.frames ≡ [] → Holds (P n) u → P n [] u.now.process
+  behind_end n u e h = subst (λ fs. P n (paths_of fs) u.now.process) e h.process
+
+  -- ---- one command in the one frame
+
+  -- so it is in the frame of this activity, or in a request's first one, behind these calls
+  record In (n : ℕ) (at : Option ActivityPath) (made : List Call) (u : UnitOfWork) : Type 0 where
+    holds : Holds (P n) u
+    stands : StandsIn at u.frames
+    calls : u.calls ≡ made
+
+  module _ (u : UnitOfWork) (f : OpenFrame) where
+    abbrev Own : ℕ → UnitOfWork → Type 0
+    Own n = In n f.at u.calls
+
+    abbrev one : UnitOfWork
+    one = record u { frames = f ∷ [] }
+
+    module _ (n : ℕ) (process : P n (option_to_list f.at) u.now.process) (kept : IsKept (P n) f.at [] f.kept) where
+      stays : Own n one
+      stays = record { holds = record { process = subst (λ ps. P n ps u.now.process) (sym (one_path f)) process; kept = (kept, tt) }; stands = refl; calls = refl }
+
+      closes : (e : End) (now : Standing) → P n [] now.process → Own n (closed e [] now one)
+      closes e now h = record { holds = record { process = h; kept = tt }; stands = tt; calls = refl }
+
+      abends : (code : Name) → Own n (abended f [] code one)
+      abends code = closes (Abend code) (completed_by_abend f.at code (unwrap_or f.kept u.now)) (abended_case n f.at code f.kept u.now kept)
+
+      leaves : (p : ActivityPath) (how : Leaving) → P n (p ∷ []) u.now.process → Own n (left p how f [] one)
+      unfolding moved
+      leaves p leaving.Dormant h = closes Commit _ (carries.rests n p u.now.process h)
+      leaves p leaving.Complete h = closes Commit _ (carries.finishes n p u.now.process h)
+      leaves p (leaving.Abended code) h = abends code
+
+      returns_at : (x : Bool) (p : ActivityPath) (o : Option Activity) → P n (p ∷ []) u.now.process → Own n (returned_at x p f [] one o).1
+      returns_at x p None h = stays
+      returns_at x p (Some a) h = leaves p (leaving_of x f.retrieved a.pool) h
+
+      returns : (x : Bool) (at : Option ActivityPath) → P n (option_to_list at) u.now.process → Own n (returned x at f [] one).1
+      returns true None h = stays
+      returns false None h = closes Commit u.now h
+      returns true (Some p) h = returns_at true p (activity_at p u.now.process) h
+      returns false (Some p) h = returns_at false p (activity_at p u.now.process) h
+
+      kept_case : (at : Option ActivityPath) (o : Option Standing) → IsKept (P n) at [] o → P n [] (unwrap_or o u.now).process
+      kept_case at None h = cc
+      kept_case at (Some before) h = h.0
+
+      rolls : (at : Option ActivityPath) → Own n (rolled_back at f one).1
+      rolls None = closes Rollback (unwrap_or f.kept u.now) (kept_case f.at f.kept kept)
+      rolls (Some p) = stays
+
+    -- ---- by its row
+
+    module _ (n : ℕ) (c : Command) (process : P n (option_to_list f.at) u.now.process) (kept : IsKept (P n) f.at [] f.kept) where
+      abbrev answer_at : Option ActivityPath → Answer (Process × Held)
+      answer_at at = answer (here u.held at) u.held 1 u.moment u.now.process c
+
+      abbrev marked : OpenFrame
+      marked = record f { retrieved = f.retrieved || is_retrieval c }
+
+      row_case : (spot : Here) (a : Answer (Process × Held)) → opens_on c ≡ None → P (n + 1) (option_to_list f.at) (process_by u.now.process u.held a) → Own (n + 1) (answered spot c f [] one a).1
+      row_case spot (refused r why) none h = stays (n + 1) h (later_one n f.at [] f.kept kept)
+      row_case spot (done v x) none h =
+          subst (λ o. Own (n + 1) (opened_by spot o (says_ran v) (stepped c f [] one x))) (sym none)
+          (record {
+            holds = record {
+              process = subst (λ ps. P (n + 1) ps (behind (is_retrieval c) u.now x.0).process) (sym (one_path marked)) (subst (P (n + 1) (option_to_list f.at)) (sym (behind_process (is_retrieval c) u.now x.0)) h);
+              kept = (later_one n f.at [] f.kept kept, tt);
+            };
+            stands = refl;
+            calls = refl;
+          })
+
+      refused_case : (p : ActivityPath) (a : Answer (Process × Held)) → a ≡ refused resp.Invreq reason.Place → P n (p ∷ []) u.now.process → P (n + 1) (p ∷ []) (process_by u.now.process u.held a)
+      refused_case p a e h = subst (λ x. P (n + 1) (p ∷ []) (process_by u.now.process u.held x)) (sym e) (carries.later n (p ∷ []) u.now.process h)
+
+      act_case : (p : ActivityPath) (b : Bool) → is_of_requests c ≡ b → Asked (Some p) c → is_of_one_frame (Some p) c ≡ true → P n (p ∷ []) u.now.process → P (n + 1) (p ∷ []) (process_by u.now.process u.held (answer_at (Some p)))
+      act_case p true e asked i h = refused_case p (answer_at (Some p)) (out_of_frame p u.held 1 u.moment u.now.process c e) h
+      act_case p false e asked i h =
+          subst (λ x. P (n + 1) (p ∷ []) (process_by u.now.process u.held x)) (sym (of_activity p u.held 1 u.moment u.now.process c (past_four c e) (from_fourteen (command_number c) (is_of_requests c) _ refl i e)))
+          (subst (P (n + 1) (p ∷ [])) (sym (left_of u.held u.now.process (act_at p u.moment u.now.process c))) (carries.acts n p u.moment u.now.process c asked h))
+
+      answer_case : (at : Option ActivityPath) → Asked at c → is_of_one_frame at c ≡ true → P n (option_to_list at) u.now.process → P (n + 1) (option_to_list at) (process_by u.now.process u.held (answer_at at))
+      unfolding answer
+      answer_case None asked i h = carries.requests n u.held u.moment u.now.process c asked (no_reset (is_none (opens_on c)) (resets c) i) h
+      answer_case (Some p) asked i h = act_case p (is_of_requests c) refl asked i h
+
+      by_row : Asked f.at c → is_of_one_frame f.at c ≡ true → Own (n + 1) (done_in f [] one c).1
+      by_row asked i = row_case (here u.held f.at) (answer_at f.at) (opens_none f.at c i) (answer_case f.at asked i process)
+
+    -- ---- each command
+
+    raised : (n : ℕ) (v : UnitOfWork) → Own n v → Own (n + 1) v
+    raised n v h = record { holds = later n v h.holds; stands = h.stands; calls = h.calls }
+
+    called : (n : ℕ) (c : Command) → Asked f.at c → is_of_one_frame f.at c ≡ true → P n (option_to_list f.at) u.now.process → IsKept (P n) f.at [] f.kept → Own (n + 1) (called_in f [] one c).1
+    unfolding called_in
+    called n (command.Return x) asked i h k = raised n _ (returns n h k x f.at h)
+    called n (command.Abend code) asked i h k = raised n _ (abends n h k code)
+    called n command.Rollback asked i h k = raised n _ (rolls n h k f.at)
+    called n c asked i h k = by_row n c h k asked i
+
+  -- ---- calls
+
+  -- behind the calls of a unit
+  abbrev pub Counted : ℕ → UnitOfWork → Type 0
+  Counted n u = Holds (P (n + length u.calls)) u
+
+  -- so it is where one frame is open at most
+  abbrev CountedIn : ℕ → Option ActivityPath → UnitOfWork → Type 0
+  CountedIn n at u = Counted n u × StandsIn at u.frames
+
+  one_more : (n : ℕ) (made now : List Call) (x : Call) → now ≡ made → n + length made + 1 ≡ n + length (now ++ x ∷ [])
+  one_more n made now x e = let a = ap length e in omega (arith, length_push now x)
+
+  called_case : (n : ℕ) (at : Option ActivityPath) (c : Command) (u : UnitOfWork) (fs : List OpenFrame) → Asked at c → is_of_one_frame at c ≡ true
+      → let v : UnitOfWork = record u { frames = fs } in CountedIn n at v → CountedIn n at (called_by fs v c).1
+  called_case n at c u [] asked i h = h
+  called_case n at c u (f ∷ []) asked i h =
+      let may : Asked f.at c × (is_of_one_frame f.at c ≡ true) = subst (λ p. Asked p c × (is_of_one_frame p c ≡ true)) (sym h.1) (asked, i) in
+      let x = called_in f [] (one u f) c in
+      let behind = called u f (n + length u.calls) c may.0 may.1 (subst (λ ps. P (n + length u.calls) ps u.now.process) (one_path f) h.0.process) h.0.kept.0 in
+      let counted = subst (λ m. Holds (P m) x.1) (one_more n u.calls x.1.calls (record { command = c; reply = x.0 }) behind.calls) behind.holds in
+      (record { process = counted.process; kept = counted.kept }, subst (λ p. StandsIn p x.1.frames) h.1 behind.stands)
+  called_case n at c u (f ∷ g ∷ fs) asked i h = absurd h.1
+
+  pub calls : (n : ℕ) (u : UnitOfWork) (c : Command) → length u.frames ≤ 1 → Asked (top_path u.frames) c → is_of_one_frame (top_path u.frames) c ≡ true → Counted n u → Counted n (call u c).1
+  unfolding call
+  calls n u c few asked i h = (called_case n (top_path u.frames) c u u.frames asked i (h, stands_in u few)).0
+
+  -- ---- commands one after the other
+
+  module _ (n : ℕ) (at : Option ActivityPath) where
+    runs_in : (cs : List Command) (u : UnitOfWork) → AllByRecursion (λ c. Asked at c × (is_of_one_frame at c ≡ true)) cs → CountedIn n at u → CountedIn n at (run u cs)
+    unfolding run
+    runs_in [] u a h = h
+    runs_in (c ∷ cs) u a h = by u.frames refl (λ v. runs_in cs v a.1)
+      where
+        by : (fs : List OpenFrame) → u.frames ≡ fs → ((v : UnitOfWork) → CountedIn n at v → CountedIn n at (run v cs))
+            → CountedIn n at (elim fs [ [] ↦ u | f ∷ fs' ↦ run (with_call c (called_in f fs' u c)).1 cs ])
+        by [] e more = h
+        by (f ∷ fs) e more = more (with_call c (called_in f fs u c)).1 (subst (λ xs. CountedIn n at (called_by xs u c).1) e (called_case n at c u u.frames a.0.0 a.0.1 h))
+
+  begun : (n : ℕ) → n ≡ n + 0
+  begun n = omega arith
+
+  -- a unit that begins with n is with n and the number of its calls behind commands
+  pub runs : (n : ℕ) (kind : UnitKind) (moment : ℕ) (s : Process) (cs : List Command) → may_begin kind s ≡ true → P n [] s
+      → AllByRecursion (λ c. Asked (path_of kind) c × (is_of_one_frame (path_of kind) c ≡ true)) cs → Counted n (run (start kind moment s) cs)
+  runs n kind moment s cs b h a =
+      (runs_in n (path_of kind) cs (start kind moment s) a (subst (λ m. Holds (P m) (start kind moment s)) (begun n) (starts n kind moment s b h), refl)).0

@@ -1,0 +1,15 @@
+use Rattle.std.proofs.Common.{arith}
+use Rattle.bts_unit.proofs.BoundedUnits.{calls_rise, starts_within, stops_within, unit_below, unit_generation}
+use Rattle.bts_unit.proofs.laws.numbers_rise_with_the_calls.Goals as goal
+
+pub returns-clause-starts : goal.returns-clause-starts
+returns-clause-starts c = starts_within
+
+pub returns-clause-rise : goal.returns-clause-rise
+returns-clause-rise c = calls_rise
+
+pub returns-clause-stops : goal.returns-clause-stops
+returns-clause-stops c = stops_within
+
+pub returns-clause-below : goal.returns-clause-below
+returns-clause-below c = λ n m u h l. let generation = unit_generation n u h in (omega arith, unit_below n m u h l)

@@ -1,0 +1,76 @@
+// What units keep of their process. The functions do nothing.
+ghost use Rattle.std.specs.Prelude.{◌≡◌, ◌≤◌, ◌<◌, ◌+◌, ℕ, List, [], length, true, false};
+ghost use Rattle.std.specs.List.{AllByRecursion};
+ghost use Rattle.bts_names.specs.Names.{Name};
+ghost use Rattle.bts_command.specs.declared.command.Command.{Command};
+ghost use Rattle.bts_command.specs.declared.ended.UnitKind.{UnitKind};
+ghost use Rattle.bts_tree.specs.Processes.{Process};
+ghost use Rattle.bts_tree.specs.Soundness.{IsSoundInFrames, numbers_below};
+ghost use Rattle.bts_rows.specs.Bounds.{is_lone, is_within};
+ghost use Rattle.bts_command.specs.Given.{IsGiven};
+ghost use Rattle.bts_act.specs.Early.{none_early};
+ghost use Rattle.bts_unit.specs.Calls.{call, run};
+ghost use Rattle.bts_unit.specs.Ends.{abended_whole};
+ghost use Rattle.bts_unit.specs.Frames.{UnitOfWork, is_there_at, path_of, start};
+ghost use Rattle.bts_unit.specs.OneFrame.{is_of_one_frame, may_begin};
+ghost use Rattle.bts_unit.specs.Replays.{top_path};
+ghost use Rattle.bts_unit.specs.Soundness.{IsSoundLone, IsSoundUnit, IsSoundWithin, makes_more_in};
+
+/// A unit that a sound process lets begin is sound: exactly the activity of its frame is ACTIVE.
+pub fn a_unit_starts_sound()
+    ensures { (kind : UnitKind) (moment : ℕ) (s : Process) → may_begin kind s ≡ true → IsSoundInFrames [] s
+        → IsSoundUnit (start kind moment s) }
+{}
+
+/// Behind each call a unit with one frame is sound again, whether the call ends the frame or not.
+pub fn calls_keep_a_unit_sound()
+    ensures { (u : UnitOfWork) (c : Command) → length u.frames ≤ 1 → IsGiven c
+        → is_of_one_frame (top_path u.frames) c ≡ true → IsSoundUnit u → IsSoundUnit (call u c).1 }
+{}
+
+/// So it is behind any commands of one frame, one after the other.
+pub fn commands_keep_a_unit_sound()
+    ensures { (kind : UnitKind) (moment : ℕ) (s : Process) (commands : List Command) → may_begin kind s ≡ true
+        → IsSoundInFrames [] s → AllByRecursion (λ c. IsGiven c × (is_of_one_frame (path_of kind) c ≡ true)) commands
+        → IsSoundUnit (run (start kind moment s) commands) }
+{}
+
+/// So is a unit all of whose frames abend.
+pub fn an_abend_keeps_a_unit_sound()
+    ensures { (code : Name) (u : UnitOfWork) → IsSoundUnit u → IsSoundUnit (abended_whole code u) }
+{}
+
+/// Behind a sound unit that has ended no activity is ACTIVE, and the process is sound.
+pub fn an_ended_unit_leaves_a_sound_process()
+    ensures { (u : UnitOfWork) → u.frames ≡ [] → IsSoundUnit u → IsSoundInFrames [] u.now.process }
+{}
+
+/// In a sound unit the activity of the top frame is there, and no event is fired before its timer.
+pub fn a_sound_unit_goes_on()
+    ensures there { (u : UnitOfWork) → IsSoundUnit u → is_there_at (top_path u.frames) u.now.process ≡ true }
+    ensures late { (u : UnitOfWork) → IsSoundUnit u → none_early u.now.process ≡ true }
+{}
+
+/// The generation of a unit's process and its last entry numbers rise by one with each call at most, and stay where
+/// all frames abend.
+pub fn numbers_rise_with_the_calls()
+    ensures starts { (n : ℕ) (kind : UnitKind) (moment : ℕ) (s : Process) → may_begin kind s ≡ true
+        → IsSoundInFrames [] s → is_within n s ≡ true → IsSoundWithin n (start kind moment s) }
+    ensures rise { (n : ℕ) (u : UnitOfWork) (c : Command) → length u.frames ≤ 1 → IsGiven c
+        → is_of_one_frame (top_path u.frames) c ≡ true → IsSoundWithin (n + length u.calls) u
+        → IsSoundWithin (n + length (call u c).1.calls) (call u c).1 }
+    ensures stops { (n : ℕ) (code : Name) (u : UnitOfWork) → IsSoundWithin n u → IsSoundWithin n (abended_whole code u) }
+    ensures below { (n m : ℕ) (u : UnitOfWork) → IsSoundWithin n u → n < m
+        → (u.now.process.generation < m) × (numbers_below m u.now.process ≡ true) }
+{}
+
+/// Where the root is the only activity, and has no timer, that stays so but behind DEFINE ACTIVITY and DEFINE TIMER
+/// in an activity's frame.
+pub fn a_lone_root_stays_alone()
+    ensures starts { (kind : UnitKind) (moment : ℕ) (s : Process) → may_begin kind s ≡ true
+        → IsSoundInFrames [] s → is_lone s ≡ true → IsSoundLone (start kind moment s) }
+    ensures calls { (u : UnitOfWork) (c : Command) → length u.frames ≤ 1 → IsGiven c
+        → is_of_one_frame (top_path u.frames) c ≡ true → makes_more_in (top_path u.frames) c ≡ false
+        → IsSoundLone u → IsSoundLone (call u c).1 }
+    ensures stops { (code : Name) (u : UnitOfWork) → IsSoundLone u → IsSoundLone (abended_whole code u) }
+{}
