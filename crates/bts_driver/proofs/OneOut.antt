@@ -1,7 +1,6 @@
 -- Where one unit is out, and it comes back.
-use Rattle.std.proofs.Common.{◌≡◌, ℕ, Bool, true, false, cond, not, ◌||◌, nat_eq, List, [], ◌∷◌, ◌++◌, Result, Ok, Err, MatchResult, eq-eqb, refl, sym, ap, ◌∙◌, subst, true≢false, arith}
+use Rattle.std.proofs.Common.{◌≡◌, ℕ, Bool, true, false, nat_eq, List, [], ◌∷◌, ◌++◌, Result, Ok, Err, MatchResult, eq-eqb, refl, sym, ap, ◌∙◌, subst, true≢false, arith}
 use Rattle.std.proofs.lemmas.List.{append-nil, append_assoc}
-use Rattle.std.specs.List.{filter, list_any}
 use Rattle.bts_command.specs.declared.ended.UnitKind.{UnitKind}
 use Rattle.bts_command.specs.declared.ended.Ended.{Ended}
 use Rattle.bts_driver.specs.Turns.{Grows, HasMore}

@@ -64,8 +64,9 @@ fn take_turn<N: Naming, S: Station<Job<N>, Done<N>>, L: Ledger>(
     }
 }
 
-/// Takes, runs and ends one unit after the other until there is no more work, or no memory. Nothing may be out,
-/// and contracts see the station's jobs and results as they are. It ends because the station's rest falls with each unit that ends.
+/// Takes, runs and ends one unit after the other until there is no more work, or no memory. Nothing may be out, and
+/// contracts see the station's jobs and results as they are. It ends because the station's rest falls with each unit
+/// that ends.
 pub fn drain<N: Naming, S: Station<Job<N>, Done<N>>, L: Ledger>(
     alloc: Global,
     station: &mut S,
