@@ -1,9 +1,8 @@
 -- What units call that follow executable texts.
-use Rattle.std.proofs.Common.{◌≡◌, ℕ, zero, suc, ◌+◌, ◌<◌, ◌≤◌, List, [], ◌∷◌, ◌++◌, length, take, Option, None, Some, option_map, refl, sym, ap, ◌∙◌, subst, arith}
-use Rattle.std.specs.List.{AllByRecursion, EachIndex, slice_get}
+use Rattle.std.proofs.Common.{◌≡◌, suc, List, [], ◌∷◌, ◌++◌, take, Option, None, Some, option_map, subst, arith}
+use Rattle.std.specs.List.{AllByRecursion, EachIndex}
 use Rattle.bts_command.specs.declared.command.Call.{Call}
 use Rattle.bts_command.specs.declared.command.Command.{Command}
-use Rattle.bts_command.specs.declared.ended.End.{End}
 use Rattle.bts_unit.specs.Calls.{commands_of}
 use Rattle.bts_unit.specs.Frames.{OpenFrame, UnitOfWork}
 use Rattle.bts_interp.specs.NextCalls.{next_call, next_in, own_calls, unit_behind}

@@ -1,10 +1,9 @@
 -- A request on a process that was never defined can be run.
-use Rattle.std.proofs.Common.{◌≡◌, [], ◌∷◌, refl, sym, ap, subst, ◌∙◌}
+use Rattle.std.proofs.Common.{◌≡◌, [], refl, sym, ap, subst}
 use Rattle.bts_names.specs.declared.key.Key.{Key}
 use Rattle.bts_command.specs.declared.ended.UnitKind.TheVariants as unit
 use Rattle.bts_session.specs.declared.session.Session.{Session}
 use Rattle.bts_tree.specs.Processes.{Process, no_process}
-use Rattle.bts_tree.specs.Scopes.{held_whole}
 use Rattle.bts_tree.proofs.New.{new_process_is_sound}
 use Rattle.bts_rows.proofs.Bounds.{within_none}
 use Rattle.bts_interp.specs.Items.{texts_of}
