@@ -89,6 +89,15 @@ event_may_fire a t n x rise early there u e =
     ap fire_refusal_of f.found ∙ may_fire a.timers f.value t x (fires_from f.value t f.passed)
     (all_at (λ y. not (is_early a.timers y.1)) a.pool.events n f.value early f.found) there u
 
+-- the same, where all that is known of the timer is that it is UNEXPIRED
+pub event_may_fire_unexpired : (a : Activity) (t n : Name) → IsRising (keys_of a.pool.events) → has_none_early a ≡ true → is_unexpired_one (lookup t a.timers) ≡ true → event_of t a.pool.events ≡ Some n
+    → fire_refusal n a.pool.events ≡ None
+event_may_fire_unexpired a t n rise early u e = by (lookup t a.timers) refl u
+  where
+    by : (o : Option OneTimer) → lookup t a.timers ≡ o → is_unexpired_one o ≡ true → fire_refusal n a.pool.events ≡ None
+    by None there h = cc
+    by (Some x) there h = event_may_fire a t n x rise early there h e
+
 -- ---- one activity of a process
 
 pub activity_none_early : (p : ActivityPath) (s : Process) (a : Activity) → activity_at p s ≡ Some a → none_early s ≡ true → has_none_early a ≡ true

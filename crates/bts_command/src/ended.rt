@@ -1,4 +1,7 @@
 // Units of work that have ended.
+ghost use Rattle.std.specs.Prelude.{◌≡◌};
+ghost use Rattle.bts_command.specs.Kinds as kinds;
+
 use crate::Calls;
 use bts_names::{Abcode, Key, Moment, Name16, Path, Rows, Sequence};
 
@@ -14,12 +17,41 @@ pub enum UnitKind {
     Browse { item: u32 },
 }
 
+impl UnitKind {
+    /// The key of the process that it holds; a Clock, Settle or Browse holds none.
+    pub fn key(&self) -> Option<Key>
+        ensures { result ≡ kinds.key_of self.now }
+    {
+        match self {
+            UnitKind::Request { key, .. }
+            | UnitKind::Activation { key, .. }
+            | UnitKind::Notice { key, .. }
+            | UnitKind::Expiry { key, .. } => Some(*key),
+            _ => None,
+        }
+    }
+
+    pub fn is_activation(&self) -> bool
+        ensures { result ≡ kinds.is_activation self.now }
+    {
+        matches!(self, UnitKind::Activation { .. })
+    }
+}
+
 /// How a unit of work ended.
 #[derive(Clone, Copy, Debug, PartialEq, Eq)]
 pub enum End {
     Commit,
     Rollback,
     Abend(Abcode),
+}
+
+impl End {
+    pub fn is_rollback(&self) -> bool
+        ensures { result ≡ kinds.is_rollback self.now }
+    {
+        matches!(self, End::Rollback)
+    }
 }
 
 /// A unit of work that has ended: what it was, the moment at which it ended, how, and what it did.

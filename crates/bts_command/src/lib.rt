@@ -2,6 +2,7 @@
 #![tactic(auto)]
 
 mod command;
+mod copying;
 mod ended;
 
 pub use command::{Call, Calls, Command, Commands, Due, Names, Spot, Target};

@@ -23,8 +23,8 @@ use Rattle.bts_unit.specs.Replays.{top_path}
 use Rattle.bts_unit.specs.Standings.{Standing}
 use Rattle.bts_unit.proofs.Shown.{opens_none}
 use Rattle.bts_interp.specs.Running.{HasFrame}
-use Rattle.bts_interp.proofs.Behind.{with_frames}
-use Rattle.bts_interp.proofs.Opening.{stays as command_stays}
+use Rattle.bts_unit.proofs.OneByOne.{with_frames}
+use Rattle.bts_unit.proofs.Opening.{stays as command_stays}
 
 -- what holds of the frames and the end
 abbrev OfFrames : Type 1

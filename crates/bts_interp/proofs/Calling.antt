@@ -1,21 +1,16 @@
 -- The call of the command that comes next: what it needs, and what it leaves.
-use Rattle.std.proofs.Common.{◌≡◌, ℕ, ◌+◌, ◌-◌, ◌<◌, ◌≤◌, ◌^◌, true, List, [], ◌∷◌, ◌++◌, length, length-append, Option, None, Some, is_none, option_map, unwrap_or, refl, sym, ap, ◌∙◌, subst, arith}
+use Rattle.std.proofs.Common.{◌≡◌, ℕ, ◌+◌, ◌-◌, ◌<◌, ◌≤◌, ◌^◌, true, List, [], ◌∷◌, ◌++◌, length, length-append, Option, None, Some, is_none, option_map, sym, ap, ◌∙◌, subst, arith}
 use Rattle.std.specs.List.{slice_get}
 use Rattle.std.specs.Option.{option_copied}
 use Rattle.bts_names.specs.declared.reply.Reply.{Reply}
 use Rattle.bts_command.specs.declared.command.Call.{Call}
 use Rattle.bts_command.specs.declared.command.Command.{Command}
 use Rattle.bts_command.specs.declared.ended.End.{End}
-use Rattle.bts_tree.specs.Soundness.{numbers_below}
-use Rattle.bts_command.specs.Given.{IsGiven}
-use Rattle.bts_act.specs.Early.{none_early}
 use Rattle.bts_unit.specs.Calls.{call, run}
-use Rattle.bts_unit.specs.Frames.{UnitOfWork, is_there_at}
+use Rattle.bts_unit.specs.Frames.{UnitOfWork}
 use Rattle.bts_unit.specs.OneFrame.{is_of_one_frame}
 use Rattle.bts_unit.specs.Replays.{top_path}
 use Rattle.bts_unit.specs.Soundness.{IsSoundUnit, IsSoundWithin}
-use Rattle.bts_unit.proofs.BoundedUnits.{unit_below, unit_generation}
-use Rattle.bts_unit.proofs.SoundUnits.{sound_unit_late, sound_unit_there}
 use Rattle.bts_command.specs.Sizes.{put_bytes}
 use Rattle.bts_interp.specs.Budgets.{got_bytes}
 use Rattle.bts_interp.specs.Commands.{command_said}
@@ -25,21 +20,12 @@ use Rattle.bts_interp.specs.Ready.{number_limit}
 use Rattle.bts_interp.specs.Running.{CanGoOn, GoesOn, HasFrame, MayCall, turns_by, turns_left}
 use Rattle.bts_interp.specs.Steps.{Reached, Script, statement_limit}
 use Rattle.bts_interp.proofs.Alone.{call_by, calls_behind, framed_behind, open_end}
-use Rattle.bts_interp.proofs.Behind.{first_call}
+use Rattle.bts_unit.proofs.OneByOne.{first_call}
 use Rattle.bts_interp.proofs.Executable.{MayFollow, may_in, reached_may}
-use Rattle.bts_interp.proofs.Opening.{base_behind, none_fits}
+use Rattle.bts_unit.proofs.Callable.{IsCallable, callable_within, last_reply}
+use Rattle.bts_unit.proofs.Opening.{base_behind, none_fits}
 use Rattle.bts_interp.proofs.Places.{count_within}
 use Rattle.bts_interp.proofs.Turning.{by_call}
-
--- what a call asks
-pub record IsCallable (u : UnitOfWork) (c : Command) : Type 0 where
-  pub open_still : is_none u.end ≡ true
-  pub there : is_there_at (top_path u.frames) u.now.process ≡ true
-  pub late : none_early u.now.process ≡ true
-  pub numbers : numbers_below (2 ^ 64 - 1) u.now.process ≡ true
-  pub generation : u.now.process.generation < 2 ^ 64 - 1
-  pub given : IsGiven c
-  pub one_frame : is_of_one_frame (top_path u.frames) c ≡ true
 
 -- it leaves a unit that needs no more than what was there
 pub record IsLeft (script place : Script) (u : UnitOfWork) (used : ℕ) (r : Reached) (x : UnitOfWork) : Type 0 where
@@ -51,10 +37,6 @@ pub record IsLeft (script place : Script) (u : UnitOfWork) (used : ℕ) (r : Rea
 fewer_by : (o : Option End) (m n : ℕ) → n ≡ m + 1 → m < 500 → turns_by n o < 501 - m
 fewer_by None m n e h = omega arith
 fewer_by (Some end) m n e h = omega arith
-
-last_of : {A : Type 0} (xs : List A) (y : A) → slice_get (xs ++ y ∷ []) (length xs) ≡ Some y
-last_of [] y = refl
-last_of (x ∷ xs) y = last_of xs y
 
 module _ (script place : Script) (u : UnitOfWork) (used bytes : ℕ) (can : CanGoOn script place u) (is_open : is_none u.end ≡ true) (r : Reached) (m : MayCall script place u used bytes r) (used_most : used ≤ statement_limit) where
   open_now : u.end ≡ None
@@ -76,16 +58,8 @@ module _ (script place : Script) (u : UnitOfWork) (used bytes : ℕ) (can : CanG
   unfolding run
   base_then = ap (λ v. v.base) (sym (first_call u r.command [])) ∙ base_behind u (r.command ∷ []) (none_fits u.frames u.end open_now)
 
-  pub callable : IsCallable u r.command
-  callable = record {
-    open_still = is_open;
-    there = sound_unit_there u can.sound;
-    late = sound_unit_late u can.sound;
-    numbers = unit_below (number_limit + length u.calls) (2 ^ 64 - 1) u can.within far;
-    generation = let most : u.now.process.generation ≤ number_limit + length u.calls = unit_generation (number_limit + length u.calls) u can.within in omega (arith, most, far);
-    given = may.command.given;
-    one_frame = in_its_frame;
-  }
+  callable : IsCallable u r.command
+  callable = callable_within (number_limit + length u.calls) u r.command can.sound can.within far is_open may.command.given in_its_frame
 
   module _ (x : UnitOfWork) (e : x ≡ (call u r.command).1) where
     pub calls_then : x.calls ≡ u.calls ++ call_by u r.command ∷ []
@@ -96,10 +70,7 @@ module _ (script place : Script) (u : UnitOfWork) (used bytes : ℕ) (can : CanG
 
     -- the reply to the last call
     pub reply_then : (reply : Reply) → Some reply ≡ option_map (λ c. c.reply) (slice_get x.calls (length x.calls - 1)) → reply ≡ (call u r.command).0
-    reply_then reply h =
-        let at : length x.calls - 1 ≡ length u.calls = omega (arith, many_then) in
-        let found : slice_get x.calls (length x.calls - 1) ≡ Some (call_by u r.command) = ap (slice_get x.calls) at ∙ ap (λ l. slice_get l (length u.calls)) calls_then ∙ last_of u.calls (call_by u r.command) in
-        ap (λ o. unwrap_or o reply) (h ∙ ap (option_map (λ c. c.reply)) found)
+    reply_then reply h = last_reply u x r.command reply calls_then h
 
     pub left_by : (IsSoundUnit u → IsSoundUnit x) → (IsSoundWithin (number_limit + length u.calls) u → IsSoundWithin (number_limit + length x.calls) x) → IsLeft script place u used r x
     left_by sound within = record {

@@ -12,10 +12,10 @@ use Rattle.bts_unit.specs.OneFrame.{may_begin}
 use Rattle.bts_unit.specs.Playing.{begun, budgeted}
 use Rattle.bts_interp.specs.Budgets.{statements_of}
 use Rattle.bts_interp.specs.Jobs.{Done, Job, FollowsTexts, IsDone, executed, executed_by, unit_of}
-use Rattle.bts_interp.specs.NextCalls.{unit_behind}
+use Rattle.bts_unit.specs.Calls.{unit_behind}
 use Rattle.bts_interp.specs.Running.{IsPlayed}
 use Rattle.bts_interp.specs.Talks.{IsTalk}
-use Rattle.bts_interp.proofs.Behind.{with_frames}
+use Rattle.bts_unit.proofs.OneByOne.{with_frames}
 
 -- ---- units that follow texts
 

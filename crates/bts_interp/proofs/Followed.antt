@@ -3,9 +3,9 @@ use Rattle.std.proofs.Common.{◌≡◌, suc, List, [], ◌∷◌, ◌++◌, tak
 use Rattle.std.specs.List.{AllByRecursion, EachIndex}
 use Rattle.bts_command.specs.declared.command.Call.{Call}
 use Rattle.bts_command.specs.declared.command.Command.{Command}
-use Rattle.bts_unit.specs.Calls.{commands_of}
+use Rattle.bts_unit.specs.Calls.{commands_of, unit_behind}
 use Rattle.bts_unit.specs.Frames.{OpenFrame, UnitOfWork}
-use Rattle.bts_interp.specs.NextCalls.{next_call, next_in, own_calls, unit_behind}
+use Rattle.bts_interp.specs.NextCalls.{next_call, next_in, own_calls}
 use Rattle.bts_interp.specs.Ready.{AreExecutable, IsExecutable, MayBeCalled}
 use Rattle.bts_interp.specs.Steps.{Reached, Script, next_at, place_behind, place_of, statement_limit}
 use Rattle.bts_interp.specs.Talks.{Follows, command_at}

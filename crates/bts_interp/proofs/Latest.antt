@@ -1,12 +1,6 @@
 -- What the last call shows that shows something.
-use Rattle.std.proofs.Common.{◌≡◌, nat_eq, List, [], ◌∷◌, ◌++◌, length, Option, None, Some, refl, ap, ◌∙◌, arith}
+use Rattle.std.proofs.Common.{◌≡◌, List, [], ◌∷◌, ◌++◌, length, Option, None, Some, refl, ap, ◌∙◌, arith}
 use Rattle.std.specs.Option.{option_or}
-use Rattle.std.specs.Bool.{one_answer}
-use Rattle.std.specs.Cmp.Lexicographic.{pointwise}
-use Rattle.std.proofs.lemmas.Bool.Decides.{Decides-eqb}
-use Rattle.std.proofs.lemmas.Slice.Eq.{slice_eq-Decides}
-use Rattle.bts_names.specs.Names.{Bytes, same}
-use Rattle.bts_names.proofs.Sameness.{same_where_equal}
 use Rattle.bts_command.specs.declared.command.Call.{Call}
 use Rattle.bts_interp.specs.Facts.{latest}
 
@@ -33,7 +27,3 @@ module _ {A : Type 0} where
   pub none_shown : (shows : Call → Option A) (calls : List Call) → length calls ≡ 0 → latest shows calls ≡ None
   none_shown shows [] h = refl
   none_shown shows (c ∷ cs) h = absurd (omega arith)
-
--- bytes are equal where they are the same
-pub same_bytes : (a b : Bytes) → pointwise nat_eq a b ≡ same a b
-same_bytes a b = one_answer _ _ (slice_eq-Decides Decides-eqb a b _ refl) (same_where_equal a b)

@@ -1,6 +1,5 @@
 pub mod Behind
 pub mod Following
-pub mod Opening
 pub mod OneTalk
 pub mod OfToday
 pub mod Followed

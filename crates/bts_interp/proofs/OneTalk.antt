@@ -9,16 +9,17 @@ use Rattle.bts_command.specs.declared.command.Call.{Call}
 use Rattle.bts_command.specs.declared.command.Command.{Command}
 use Rattle.bts_command.specs.declared.ended.End.{End}
 use Rattle.bts_command.specs.declared.ended.End.TheVariants.{Abend}
-use Rattle.bts_unit.specs.Calls.{call, commands_of}
+use Rattle.bts_unit.specs.Calls.{call, commands_of, unit_behind}
 use Rattle.bts_unit.specs.Frames.{OpenFrame, UnitOfWork}
 use Rattle.bts_interp.specs.Budgets.{call_limit, count_of, data_bytes, data_limit, due_end, end_before, end_by, end_of_open, statements_to, statements_with}
-use Rattle.bts_interp.specs.NextCalls.{next_call, next_in, unit_behind}
+use Rattle.bts_interp.specs.NextCalls.{next_call, next_in}
 use Rattle.bts_interp.specs.Steps.{Reached, statement_limit}
 use Rattle.bts_interp.specs.Talks.{Follows, IsTalk, next_command}
 use Rattle.bts_interp.specs.Texts.{Texts}
 use Rattle.bts_interp.proofs.Behind.{statements_to_more}
 use Rattle.bts_interp.proofs.Following.{HasRoom, each_at}
-use Rattle.bts_interp.proofs.Opening.{Fits, IsFit, fit_behind_all, reply_given}
+use Rattle.bts_unit.specs.Replays.{Fits, IsFit}
+use Rattle.bts_unit.proofs.Opening.{fit_behind_all, reply_given}
 
 -- ---- where there is room for one more, no end is due
 

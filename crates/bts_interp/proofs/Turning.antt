@@ -6,24 +6,26 @@ use Rattle.bts_names.specs.Names.{Name}
 use Rattle.bts_command.specs.declared.command.Call.{Call}
 use Rattle.bts_command.specs.declared.ended.End.{End}
 use Rattle.bts_command.specs.declared.ended.End.TheVariants.{Abend, Commit, Rollback}
-use Rattle.bts_unit.specs.Calls.{call, run}
+use Rattle.bts_unit.specs.Calls.{call, run, unit_behind}
 use Rattle.bts_unit.specs.Ends.{abended_whole}
 use Rattle.bts_unit.specs.Frames.{OpenFrame, UnitOfWork}
 use Rattle.bts_unit.specs.OneFrame.{is_of_one_frame}
 use Rattle.bts_unit.specs.Playing.{budgeted, budgeted_by, is_budget}
 use Rattle.bts_unit.specs.Replays.{top_path}
 use Rattle.bts_interp.specs.Budgets.{call_bytes, call_limit, count_of, data_bytes, data_limit, statements_of, statements_to}
-use Rattle.bts_interp.specs.NextCalls.{is_on_top, next_call, next_in, own_calls, unit_behind, with_own}
+use Rattle.bts_interp.specs.NextCalls.{is_on_top, next_call, next_in, own_calls, with_own}
 use Rattle.bts_interp.specs.Running.{FollowsFirst, GoesOn, HasFrame, IsPlayed, IsRun, IsRunBy, IsUnderWay, MayCall, Stops}
 use Rattle.bts_interp.specs.Steps.{Reached, Script, next, next_of, place_behind, place_of, statement_limit}
 use Rattle.bts_interp.specs.Talks.{Follows, IsTalk}
 use Rattle.bts_interp.specs.Texts.{Texts}
 use Rattle.bts_interp.proofs.Alone.{Framed, IsStopped, call_by, calls_behind, framed, framed_behind, stopped}
-use Rattle.bts_interp.proofs.Behind.{first_call, one_more_statements, own_calls_more, place_behind_more, unit_behind_more}
+use Rattle.bts_unit.proofs.OneByOne.{first_call, unit_behind_more}
+use Rattle.bts_interp.proofs.Behind.{one_more_statements, own_calls_more, place_behind_more}
 use Rattle.bts_interp.proofs.Ending.{IsEnd, its_own, too_many_calls, too_many_statements, too_much_data}
 use Rattle.bts_interp.proofs.Following.{HasRoom, one_more_follows}
 use Rattle.bts_interp.proofs.OneTalk.{not_due_at}
-use Rattle.bts_interp.proofs.Opening.{IsFit, none_fits}
+use Rattle.bts_unit.specs.Replays.{IsFit}
+use Rattle.bts_unit.proofs.Opening.{none_fits}
 use Rattle.bts_interp.proofs.Places.{Cut, cut}
 
 -- ---- a unit behind its calls, open or ended

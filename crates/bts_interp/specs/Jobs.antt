@@ -9,7 +9,7 @@ use Rattle.bts_tree.specs.Processes.{Process}
 use Rattle.bts_unit.specs.Frames.{UnitOfWork}
 use Rattle.bts_unit.specs.Playing.{begun, budgeted}
 use Rattle.bts_interp.specs.Budgets.{statements_of}
-use Rattle.bts_interp.specs.NextCalls.{unit_behind}
+use Rattle.bts_unit.specs.Calls.{unit_behind}
 use Rattle.bts_interp.specs.Talks.{IsTalk}
 use Rattle.bts_interp.specs.Texts.{Texts}
 

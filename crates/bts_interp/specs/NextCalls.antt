@@ -1,13 +1,10 @@
 -- The call that comes next in a unit.
 use Rattle.std.specs.Prelude.{ℕ, Bool, true, false, nat_eq, List, [], ◌∷◌, Option, None}
 use Rattle.bts_command.specs.declared.command.Call.{Call}
-use Rattle.bts_unit.specs.Calls.{call, run, commands_of}
+use Rattle.bts_unit.specs.Calls.{call, unit_behind}
 use Rattle.bts_unit.specs.Frames.{OpenFrame, UnitOfWork}
 use Rattle.bts_interp.specs.Steps.{Reached, next_of}
 use Rattle.bts_interp.specs.Texts.{Texts, frame_script}
-
-unfoldable pub unit_behind : UnitOfWork → List Call → UnitOfWork
-unit_behind u calls = run u (commands_of calls)
 
 -- ---- the calls of one frame
 

@@ -94,7 +94,7 @@ fn last_fired(own: &[Call]) -> Option<&bool>
 }
 
 /// Whether the bytes are the same.
-#[tactic(auto, using(crate::proofs::Latest::same_bytes))]
+#[tactic(auto, using(bts_unit::proofs::Alike::same_bytes))]
 fn are_same(given: &Blob, found: &Blob) -> bool
     ensures { result ≡ same given.now found.now }
 {

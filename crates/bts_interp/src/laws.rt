@@ -5,7 +5,7 @@ ghost use Rattle.bts_command.specs.declared.ended.End.{End};
 ghost use Rattle.bts_command.specs.declared.ended.UnitKind.{UnitKind};
 ghost use Rattle.bts_tree.specs.Processes.{Process};
 ghost use Rattle.bts_unit.specs.Frames.{start};
-ghost use Rattle.bts_interp.specs.NextCalls.{unit_behind};
+ghost use Rattle.bts_unit.specs.Calls.{unit_behind};
 ghost use Rattle.bts_interp.specs.Talks.{IsTalk};
 ghost use Rattle.bts_interp.specs.Texts.{Texts};
 

@@ -10,9 +10,9 @@ use Rattle.bts_command.specs.declared.ended.Ended.{Ended}
 use Rattle.bts_interp.specs.Items.{item_done, item_of}
 use Rattle.bts_region.specs.Enabled.{least}
 use Rattle.bts_region.specs.Histories.{IsClocked, IsLegal, IsNext, IsWithin, last_clock}
-use Rattle.bts_region.specs.Items.{clock_in, has_ended}
+use Rattle.bts_region.specs.Items.{clock_in, items_of}
 use Rattle.bts_region.specs.Keeps.{AreFirst}
-use Rattle.bts_region.specs.Kinds.{is_activation, items_of}
+use Rattle.bts_command.specs.Kinds.{is_activation}
 use Rattle.bts_region.specs.Positions.{Position, behind, behind_all, with_item}
 use Rattle.bts_region.specs.Regions.{is_once_at_most}
 use Rattle.bts_region.specs.Serial.{IsLeast, activations_in}

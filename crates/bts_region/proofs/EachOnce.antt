@@ -6,9 +6,8 @@ use Rattle.std.proofs.lemmas.Bool.{and_parts}
 use Rattle.bts_command.specs.declared.ended.Ended.{Ended}
 use Rattle.bts_region.specs.Enabled.{is_enabled_as, is_item_enabled, works}
 use Rattle.bts_region.specs.Histories.{IsLegal}
-use Rattle.bts_region.specs.Items.{EachItemOnce, has_ended}
+use Rattle.bts_region.specs.Items.{EachItemOnce, has_ended, items_of}
 use Rattle.bts_interp.specs.Items.{Numbered, numbered, item_of}
-use Rattle.bts_region.specs.Kinds.{items_of}
 use Rattle.bts_region.specs.Positions.{Position, behind, behind_all, with_item}
 use Rattle.bts_region.proofs.AllDone.{all_ended}
 use Rattle.bts_region.proofs.Counts.{counted_first, equal_numbers, one_if}

@@ -1,28 +1,22 @@
 -- What ending a unit, and taking one back, does as a station's.
-use Rattle.std.proofs.Common.{◌≡◌, ◌<◌, ◌≤◌, ◌-◌, ℕ, ◌+◌, Bool, true, false, cond, not, ◌||◌, max, nat_eq, List, [], ◌∷◌, ◌++◌, length, length-append, map, is_some, IfOk, IfErr, MatchResult, Option, None, Some, Result, Ok, Err, refl, sym, ap, ◌∙◌, subst, arith}
-use Rattle.std.specs.List.{AllByRecursion, cons_option, count_by, find}
+use Rattle.std.proofs.Common.{◌≡◌, ◌<◌, ◌≤◌, ℕ, ◌+◌, Bool, true, false, cond, not, ◌||◌, nat_eq, List, [], ◌∷◌, ◌++◌, length, length-append, map, is_some, IfOk, IfErr, MatchResult, Option, None, Some, Result, Ok, Err, refl, sym, ap, ◌∙◌, subst, arith}
+use Rattle.std.specs.List.{AllByRecursion, cons_option, find}
 use Rattle.std.specs.Option.{option_map}
-use Rattle.std.proofs.Math.Nat.{zero-add}
 use Rattle.bts_command.specs.declared.ended.Ended.{Ended}
 use Rattle.bts_command.specs.declared.ended.UnitKind.{UnitKind}
-use Rattle.bts_command.specs.declared.ended.UnitKind.TheVariants as unit
-use Rattle.bts_interp.specs.Items.{item_done, item_of}
+use Rattle.bts_interp.specs.Items.{item_of}
 use Rattle.bts_interp.specs.Jobs as jobs
-use Rattle.bts_interp.specs.Names.{Named}
 use Rattle.bts_interp.specs.Stations.{Finishes, Out, PutsNone, PutsOne, has_ticket, without}
 use Rattle.bts_interp.specs.declared.station.FinishError.{FinishError}
 use Rattle.bts_interp.specs.declared.station.FinishError.TheVariants as failure
 use Rattle.bts_region.specs.Answers.{Ends, Refuses, unit_out, with_ended, with_out}
-use Rattle.bts_region.specs.AsStation.{IsRegionWithin, MayEnd, is_counted, rest_of}
+use Rattle.bts_region.specs.AsStation.{IsRegionWithin, MayEnd, rest_of}
 use Rattle.bts_region.specs.Enabled.{least}
-use Rattle.bts_region.specs.Histories.{IsLegal, IsNext}
-use Rattle.bts_region.specs.Items.{clock_in}
-use Rattle.bts_region.specs.Keeps.{IsNextOut, Keeps, out_of, state_of}
-use Rattle.bts_region.specs.Kinds.{is_activation, items_of}
+use Rattle.bts_region.specs.Histories.{IsLegal}
+use Rattle.bts_region.specs.Items.{items_of}
+use Rattle.bts_command.specs.Kinds.{is_activation}
 use Rattle.bts_region.specs.Positions.{Position, behind_all}
 use Rattle.bts_region.specs.Regions.{IsKept, IsLeastOut, IsRegionInOrder, RegionState, kinds_out, position_of}
-use Rattle.bts_region.specs.Serial.{IsInOrder, activations_in}
-use Rattle.bts_region.specs.declared.region.Region.TheInside.{Inside}
 use Rattle.bts_region.proofs.Appending.{activations_more, behind_more, clocked_more, items_more, least_more, legal_more, within_more}
 use Rattle.bts_region.proofs.Counts.{one_if}
 use Rattle.bts_region.proofs.FewItems.{items_fit}

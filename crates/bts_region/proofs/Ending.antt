@@ -1,5 +1,5 @@
 -- A unit ends with the result that fits.
-use Rattle.std.proofs.Common.{◌≡◌, ◌≤◌, ◌*◌, ℕ, ◌+◌, Bool, true, false, not, cond, ◌&&◌, nat_eq, List, [], ◌∷◌, ◌++◌, length, Option, None, Some, refl, sym, ap, ◌∙◌, subst, arith}
+use Rattle.std.proofs.Common.{◌≡◌, ◌≤◌, ◌*◌, ℕ, ◌+◌, Bool, true, false, not, cond, nat_eq, List, [], ◌∷◌, length, Option, None, Some, refl, sym, ap, ◌∙◌, subst, arith}
 use Rattle.std.specs.List.{enumerate_from, find, list_all}
 use Rattle.std.specs.Option.{option_map}
 use Rattle.std.proofs.lemmas.Bool.{and_from, and_parts, eqb-true}
@@ -9,22 +9,21 @@ use Rattle.bts_command.specs.declared.ended.End.TheVariants.{Commit, Rollback, A
 use Rattle.bts_command.specs.declared.ended.Ended.{Ended}
 use Rattle.bts_command.specs.declared.ended.UnitKind.{UnitKind}
 use Rattle.bts_command.specs.declared.ended.UnitKind.TheVariants as unit
-use Rattle.bts_interp.specs.Items.{Numbered, item_at, item_done, item_of}
+use Rattle.bts_interp.specs.Items.{Numbered, item_at, item_of}
 use Rattle.bts_interp.specs.Jobs as jobs
-use Rattle.bts_interp.specs.NextCalls.{unit_behind}
+use Rattle.bts_unit.specs.Calls.{unit_behind}
 use Rattle.bts_names.specs.Names.{Name}
 use Rattle.bts_names.specs.declared.key.Key.{Key}
-use Rattle.bts_names.specs.declared.row.Row.{Row}
 use Rattle.bts_region.specs.Enabled.{is_enabled}
 use Rattle.bts_region.specs.Fitting.{job_of}
 use Rattle.bts_region.specs.Histories.{IsNext, number_behind}
 use Rattle.bts_region.specs.Items.{clock_in, is_for, rows_in}
 use Rattle.bts_region.specs.Keeps.{IsNextOut}
-use Rattle.bts_region.specs.Kinds.{is_activation, is_committed, is_kept, is_rollback, key_of}
+use Rattle.bts_command.specs.Kinds.{is_activation, is_kept, is_rollback, key_of}
 use Rattle.bts_region.specs.Positions.{Position}
 use Rattle.bts_rows.specs.Bounds.{is_lone, is_within}
 use Rattle.bts_rows.proofs.Bounds.{within_more}
-use Rattle.bts_rows.proofs.Repositories.{all_one_by_one, all_together, put_all, put_sound}
+use Rattle.bts_rows.proofs.Repositories.{put_all, put_sound}
 use Rattle.bts_session.specs.declared.session.Item.{Item}
 use Rattle.bts_session.specs.declared.session.Item.TheVariants as item
 use Rattle.bts_session.specs.declared.session.Session.{Session}
@@ -33,7 +32,7 @@ use Rattle.bts_tree.specs.Repositories.{Processes, process_at, put}
 use Rattle.bts_tree.specs.Soundness.{AreSound, IsSoundInFrames}
 use Rattle.bts_unit.specs.Frames.{OpenFrame, UnitOfWork}
 use Rattle.bts_unit.specs.Ends.{abended_whole}
-use Rattle.bts_unit.specs.Playing.{IsReplay, after, begun, budgeted, budgeted_by, finished, is_budget, put_back, replayed}
+use Rattle.bts_unit.specs.Playing.{after, budgeted, budgeted_by, is_budget, put_back, replayed}
 
 -- ---- the end of a unit that used all that it may leaves its calls
 

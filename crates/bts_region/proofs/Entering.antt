@@ -1,5 +1,5 @@
 -- What a region keeps where a unit ended.
-use Rattle.std.proofs.Common.{◌≡◌, ◌≤◌, ◌*◌, ℕ, ◌+◌, Bool, true, false, not, cond, List, [], ◌∷◌, ◌++◌, length, Option, None, Some, refl, sym, ap, ◌∙◌, subst, arith}
+use Rattle.std.proofs.Common.{◌≡◌, ◌≤◌, ◌*◌, ℕ, ◌+◌, Bool, true, false, cond, List, [], ◌∷◌, ◌++◌, length, None, Some, refl, sym, ap, ◌∙◌, subst, arith}
 use Rattle.std.specs.List.{list_all}
 use Rattle.std.proofs.Math.Nat.{add-zero}
 use Rattle.bts_command.specs.declared.ended.Ended.{Ended}
@@ -7,7 +7,7 @@ use Rattle.bts_interp.specs.Items.{item_of}
 use Rattle.bts_interp.specs.Names.{Named}
 use Rattle.bts_region.specs.Histories.{IsNext}
 use Rattle.bts_region.specs.Keeps.{AreFirst, IsNextOut, Keeps, out_of, state_of}
-use Rattle.bts_region.specs.Kinds.{is_activation, is_committed}
+use Rattle.bts_command.specs.Kinds.{is_activation, is_committed}
 use Rattle.bts_region.specs.Positions.{Position, behind, behind_all, origin, with_item}
 use Rattle.bts_region.specs.Regions.{IsKept, RegionState, activations_of}
 use Rattle.bts_region.specs.Serial.{activations_in}
@@ -16,7 +16,6 @@ use Rattle.bts_region.specs.declared.region.Region.TheInside.{Inside}
 use Rattle.bts_region.proofs.Appending.{activations_more, behind_more, first_more, items_stand_once, legal_more}
 use Rattle.bts_region.proofs.Counts.{one_if}
 use Rattle.bts_rows.specs.Bounds.{is_lone, is_within}
-use Rattle.bts_session.specs.declared.session.Session.{Session}
 use Rattle.bts_tree.specs.Soundness.{AreSound}
 use Rattle.bts_unit.specs.Playing.{after}
 

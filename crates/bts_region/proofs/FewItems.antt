@@ -9,7 +9,7 @@ use Rattle.bts_region.proofs.Counts.{counted_first, one_if}
 use Rattle.bts_region.proofs.EachOnce.{once_at_most}
 use Rattle.bts_region.specs.Enabled.{is_enabled_as, is_item_enabled}
 use Rattle.bts_region.specs.Histories.{IsLegal}
-use Rattle.bts_region.specs.Kinds.{items_of}
+use Rattle.bts_region.specs.Items.{items_of}
 use Rattle.bts_region.specs.Positions.{Position, behind}
 use Rattle.bts_session.specs.declared.session.Item.{Item}
 use Rattle.bts_session.specs.declared.session.Session.{Session}

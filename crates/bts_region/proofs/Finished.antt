@@ -1,11 +1,10 @@
 -- What a region keeps where the unit that was out ended.
-use Rattle.std.proofs.Common.{◌≡◌, ◌≤◌, ◌*◌, ℕ, ◌+◌, Bool, true, false, not, cond, ◌&&◌, List, [], ◌∷◌, ◌++◌, length, map, Option, None, Some, Result, Ok, Err, OnOk, is_err, refl, sym, ap, ◌∙◌, subst, arith}
+use Rattle.std.proofs.Common.{◌≡◌, ◌≤◌, ◌*◌, ℕ, ◌+◌, Bool, true, false, not, cond, ◌&&◌, [], ◌∷◌, ◌++◌, length, map, Option, None, Some, Result, Ok, Err, OnOk, is_err, refl, sym, ap, ◌∙◌, subst, arith}
 use Rattle.std.specs.List.{count_by, list_all}
 use Rattle.std.specs.Int.{from_bool}
 use Rattle.std.proofs.Math.Nat.{zero-add}
 use Rattle.bts_command.specs.declared.ended.Ended.{Ended}
 use Rattle.bts_command.specs.declared.ended.UnitKind.{UnitKind}
-use Rattle.bts_interp.specs.Items.{texts_of}
 use Rattle.bts_interp.specs.Jobs as jobs
 use Rattle.bts_interp.specs.Names.{Named}
 use Rattle.bts_interp.specs.Ready.{IsRunnable}
@@ -13,11 +12,10 @@ use Rattle.bts_interp.specs.Stations.{Out, without}
 use Rattle.bts_names.specs.declared.key.Key.{Key}
 use Rattle.bts_region.specs.Answers.{Ends, Fits, unit_out, with_ended, with_out}
 use Rattle.bts_region.specs.Fitting.{IsOfDue, job_of}
-use Rattle.bts_region.specs.Histories.{IsNext, number_behind}
-use Rattle.bts_region.specs.Keeps.{IsNextOut, Keeps, out_of, state_of}
-use Rattle.bts_region.specs.Kinds.{is_activation, is_committed, is_kept, is_rollback, key_of}
+use Rattle.bts_region.specs.Histories.{IsNext}
+use Rattle.bts_region.specs.Keeps.{Keeps, out_of, state_of}
+use Rattle.bts_command.specs.Kinds.{is_activation, is_kept, is_rollback, key_of}
 use Rattle.bts_region.specs.Positions.{Position, behind_all, origin}
-use Rattle.bts_region.specs.Regions.{RegionState}
 use Rattle.bts_region.specs.Serial.{activations_in}
 use Rattle.bts_region.specs.declared.region.Region.TheInside.{Inside}
 use Rattle.bts_region.proofs.Counts.{one_if}
@@ -25,12 +23,12 @@ use Rattle.bts_region.proofs.Ending.{few_out, item_out, kept_out, left_behind, l
 use Rattle.bts_region.proofs.Entering.{Enters, is_entered}
 use Rattle.bts_region.proofs.Left.{done_key, done_lone, done_sound, done_within}
 use Rattle.bts_region.proofs.Runnable.{out_enabled, out_next, out_runnable}
-use Rattle.bts_region.proofs.Sameness.{key_there}
+use Rattle.bts_unit.proofs.Applied.{key_there}
 use Rattle.bts_rows.specs.Bounds.{is_lone, is_within}
 use Rattle.bts_rows.proofs.Repositories.{lone_at, within_at}
 use Rattle.bts_tree.specs.Processes.{Process}
-use Rattle.bts_tree.specs.Repositories.{Processes, process_at}
-use Rattle.bts_tree.specs.Soundness.{AreSound, IsSoundInFrames}
+use Rattle.bts_tree.specs.Repositories.{process_at}
+use Rattle.bts_tree.specs.Soundness.{AreSound}
 use Rattle.bts_unit.specs.Playing.{after, put_back}
 
 -- the unit with the result of a job

@@ -7,7 +7,7 @@ use Rattle.bts_region.specs.Enabled.{least}
 use Rattle.bts_region.specs.Histories.{IsClocked, IsLegal}
 use Rattle.bts_region.specs.Items.{clock_in}
 use Rattle.bts_interp.specs.Items.{item_done}
-use Rattle.bts_region.specs.Kinds.{is_activation}
+use Rattle.bts_command.specs.Kinds.{is_activation}
 use Rattle.bts_region.specs.Positions.{Position, behind, behind_all}
 use Rattle.bts_region.specs.Serial.{IsInOrder, IsLeast, IsSerial, activations_in, is_over}
 use Rattle.bts_region.proofs.Counts.{counted_first, equal_numbers, one_if}

@@ -19,7 +19,7 @@ use Rattle.bts_region.proofs.Works.{turn_is_next}
 use Rattle.bts_region.specs.Enabled.{is_enabled, is_item_enabled}
 use Rattle.bts_region.specs.Items.{is_for}
 use Rattle.bts_region.specs.Keeps.{IsNextOut, Keeps, state_of}
-use Rattle.bts_region.specs.Kinds.{is_activation, key_of}
+use Rattle.bts_command.specs.Kinds.{is_activation, key_of}
 use Rattle.bts_region.specs.Positions.{Position}
 use Rattle.bts_region.specs.Regions.{offer, work}
 use Rattle.bts_region.specs.declared.region.Region.TheInside.{Inside}

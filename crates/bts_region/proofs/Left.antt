@@ -1,87 +1,30 @@
 -- What a unit leaves of the process that it began with.
-use Rattle.std.proofs.Common.{◌≡◌, ◌≤◌, ℕ, ◌+◌, Bool, true, false, List, [], ◌∷◌, length, Option, Some, None, refl, sym, ap, ◌∙◌, subst, cond, arith, true≢false}
+use Rattle.std.proofs.Common.{◌≡◌, ◌≤◌, ℕ, ◌+◌, true, false, List, [], ◌∷◌, length, Option, Some, None, refl, sym, ap, ◌∙◌, subst, arith, true≢false}
 use Rattle.std.specs.List.{AllByRecursion}
 use Rattle.bts_names.specs.Names.{ActivityPath, Name}
-use Rattle.bts_command.specs.Given.{IsGiven}
 use Rattle.bts_command.specs.declared.command.Call.{Call}
 use Rattle.bts_command.specs.declared.command.Command.{Command}
 use Rattle.bts_command.specs.declared.ended.End.{End}
-use Rattle.bts_command.specs.declared.ended.End.TheVariants.{Commit, Rollback, Abend}
 use Rattle.bts_command.specs.declared.ended.UnitKind.{UnitKind}
 use Rattle.bts_command.specs.declared.ended.UnitKind.TheVariants as unit
 use Rattle.bts_rows.specs.Bounds.{is_lone, is_within}
 use Rattle.bts_rows.proofs.Bounds.{within_more}
 use Rattle.bts_tree.specs.Processes.{Process}
 use Rattle.bts_tree.specs.Soundness.{IsSoundInFrames}
-use Rattle.bts_unit.specs.Calls.{commands_of, run}
-use Rattle.bts_unit.specs.Ends.{abended, abended_whole, first_of}
-use Rattle.bts_unit.specs.Frames.{OpenFrame, UnitOfWork, path_of, start}
-use Rattle.bts_unit.specs.OneFrame.{is_of_one_frame, may_begin}
-use Rattle.bts_unit.specs.Playing.{begun, budgeted, budgeted_by, is_budget}
+use Rattle.bts_unit.specs.Calls.{commands_of, run, unit_behind}
+use Rattle.bts_unit.specs.Frames.{UnitOfWork, path_of, start}
+use Rattle.bts_unit.specs.OneFrame.{may_begin}
+use Rattle.bts_unit.specs.Playing.{begun, budgeted}
 use Rattle.bts_unit.proofs.BoundedUnits.{AreAsked, abended_by, any, key_rises, left_by_abend, lone, lone_rises, makes_none, of_key, within, within_rises}
 use Rattle.bts_unit.proofs.Rising.{Rises}
-use Rattle.bts_interp.specs.Budgets.{call_limit}
 use Rattle.bts_interp.specs.Jobs as jobs
-use Rattle.bts_interp.specs.NextCalls.{unit_behind}
 use Rattle.bts_interp.specs.Ready.{IsRunnable, MayBeCalled}
 use Rattle.bts_interp.specs.Talks.{Follows, IsTalk}
 use Rattle.bts_interp.specs.Texts.{Texts}
 use Rattle.bts_interp.proofs.Executable.{may_in}
 use Rattle.bts_interp.proofs.Followed.{follows_may}
-use Rattle.bts_interp.proofs.Opening.{Fits, IsFit, fit_behind_all}
-
--- ---- the end of a unit
-
--- the code with which all frames abend, where the end of the unit is that of its limits
-abbrev code_if : Bool → Name → Option Name
-code_if true code = Some code
-code_if false code = None
-
-abbrev code_by : Name → Option End → Option Name
-code_by code (Some e) = None
-code_by code None = code_if (is_budget code) code
-
-abbrev stopping : End → Option End → Option Name
-stopping Commit o = None
-stopping Rollback o = None
-stopping (Abend code) o = code_by code o
-
-module _ (u : UnitOfWork) where
-  by_test : (b : Bool) (code : Name) → cond b (abended_whole code u) u ≡ abended_by (code_if b code) u
-  by_test true code = refl
-  by_test false code = refl
-
-  by_end : (o : Option End) (code : Name) → budgeted_by code o u ≡ abended_by (code_by code o) u
-  by_end (Some e) code = refl
-  by_end None code = by_test (is_budget code) code
-
-  stops : (e : End) → budgeted e u ≡ abended_by (stopping e u.end) u
-  stops Commit = refl
-  stops Rollback = refl
-  stops (Abend code) = by_end u.end code
-
-  abbrev whole : Name → List OpenFrame → UnitOfWork
-  whole code frames = elim frames [ [] ↦ u | f ∷ fs ↦ abended (first_of f fs) [] code u ]
-
-  no_frames : (code : Name) (frames : List OpenFrame) → u.frames ≡ frames → (whole code frames).frames ≡ []
-  no_frames code [] e = e
-  no_frames code (f ∷ fs) e = refl
-
-  same_calls : (code : Name) (frames : List OpenFrame) → (whole code frames).calls ≡ u.calls
-  same_calls code [] = refl
-  same_calls code (f ∷ fs) = refl
-
-  calls_kept : (o : Option Name) → (abended_by o u).calls ≡ u.calls
-  calls_kept None = refl
-  calls_kept (Some code) = same_calls code u.frames
-
-  closed_by : (frames : List OpenFrame) (o : Option End) (e : End) → Fits frames o → o ≡ Some e → frames ≡ []
-  closed_by [] o e fit h = refl
-  closed_by (f ∷ fs) o e fit h = let q : None ≡ Some e = sym fit ∙ h in cc
-
-  frames_gone : (o : Option Name) (e : End) → IsFit u → (abended_by o u).end ≡ Some e → (abended_by o u).frames ≡ []
-  frames_gone None e fit h = closed_by u.frames u.end e fit h
-  frames_gone (Some code) e fit h = no_frames code u.frames refl
+use Rattle.bts_unit.proofs.AtEnd.{calls_kept, frames_gone, stopping, stops}
+use Rattle.bts_unit.proofs.Opening.{fit_behind_all}
 
 -- ---- commands of executable texts
 

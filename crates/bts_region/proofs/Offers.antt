@@ -10,7 +10,7 @@ use Rattle.bts_interp.specs.Stations.{Out}
 use Rattle.bts_region.proofs.Works.{no_settles, unsettled_by}
 use Rattle.bts_region.specs.Enabled.{is_item_enabled, items_enabled, least, works}
 use Rattle.bts_region.specs.Items.{is_settle, unit_of}
-use Rattle.bts_region.specs.Kinds.{is_activation}
+use Rattle.bts_command.specs.Kinds.{is_activation}
 use Rattle.bts_region.specs.Positions.{Position}
 use Rattle.bts_region.specs.Regions.{Offer, RegionState, all_done, idle, limit_met, offer, offered, position_of, wait, work}
 use Rattle.bts_region.specs.Serial.{activations_in}

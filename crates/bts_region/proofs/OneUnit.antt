@@ -9,16 +9,15 @@ use Rattle.bts_command.specs.declared.ended.Ended.{Ended}
 use Rattle.bts_command.specs.declared.ended.UnitKind.{UnitKind}
 use Rattle.bts_command.specs.declared.ended.UnitKind.TheVariants as unit
 use Rattle.bts_tree.specs.Processes.{Process}
-use Rattle.bts_unit.specs.Calls.{commands_of, run}
+use Rattle.bts_unit.specs.Calls.{commands_of, run, unit_behind}
 use Rattle.bts_unit.specs.Frames.{UnitOfWork}
 use Rattle.bts_unit.specs.Playing.{budgeted}
 use Rattle.bts_unit.specs.Systems.{system}
-use Rattle.bts_interp.proofs.Behind.{ended_stays}
+use Rattle.bts_unit.proofs.OneByOne.{ended_stays}
 use Rattle.bts_interp.proofs.OneTalk.{talks_agree}
-use Rattle.bts_interp.specs.NextCalls.{unit_behind}
 use Rattle.bts_region.specs.Histories.{IsNext}
 use Rattle.bts_interp.specs.Items.{texts_of}
-use Rattle.bts_region.specs.Kinds.{is_kept, is_rollback}
+use Rattle.bts_command.specs.Kinds.{is_kept, is_rollback}
 use Rattle.bts_region.specs.Positions.{Position}
 use Rattle.bts_session.specs.declared.session.Session.{Session}
 use Rattle.bts_tree.specs.Repositories.{process_at}

@@ -1,17 +1,17 @@
 -- A unit that holds a process of a region, and may begin on it, can be run.
-use Rattle.std.proofs.Common.{◌≡◌, ◌≤◌, ◌*◌, ◌^◌, ℕ, ◌+◌, Bool, true, false, cond, nat_eq, List, [], ◌∷◌, map, Option, None, Some, refl, sym, ap, ◌∙◌, subst, arith}
+use Rattle.std.proofs.Common.{◌≡◌, ◌≤◌, ◌*◌, ◌^◌, ℕ, ◌+◌, Bool, true, false, cond, nat_eq, List, [], ◌∷◌, map, Option, None, Some, refl, sym, subst, arith}
 use Rattle.std.specs.List.{AllByRecursion, enumerate_from, find}
 use Rattle.std.specs.Option.{option_map}
 use Rattle.bts_command.specs.declared.ended.UnitKind.{UnitKind}
 use Rattle.bts_command.specs.declared.ended.UnitKind.TheVariants as unit
-use Rattle.bts_interp.specs.Items.{Numbered, block_in, item_done, item_in, item_of, texts_of}
+use Rattle.bts_interp.specs.Items.{Numbered, block_in, item_in, item_of, texts_of}
 use Rattle.bts_interp.specs.Names.{Named}
 use Rattle.bts_interp.specs.Ready.{AreExecutable, IsExecutable, IsRunnable}
 use Rattle.bts_interp.specs.Stations.{Out}
 use Rattle.bts_names.specs.declared.key.Key.{Key}
 use Rattle.bts_region.specs.Enabled.{is_enabled}
 use Rattle.bts_region.specs.Keeps.{IsNextOut, Keeps, out_of, state_of}
-use Rattle.bts_region.specs.Kinds.{key_of}
+use Rattle.bts_command.specs.Kinds.{key_of}
 use Rattle.bts_region.specs.Regions.{position_of}
 use Rattle.bts_region.specs.Today.{IsOfToday, MayBeDone}
 use Rattle.bts_region.specs.declared.region.Region.TheInside.{Inside}

@@ -1,5 +1,5 @@
 -- When two units are the same, and the key of what stands under a key.
-use Rattle.std.proofs.Common.{◌≡◌, ◌↔◌, Bool, true, false, not, ◌&&◌, cond, nat_eq, ℕ, [], ◌∷◌, is_eq, IsTrue, refl, sym, ap, ◌∙◌, subst}
+use Rattle.std.proofs.Common.{◌≡◌, ◌↔◌, Bool, true, false, not, ◌&&◌, ℕ, IsTrue, refl, sym, ap, ◌∙◌}
 use Rattle.std.specs.Bool.{Decides}
 use Rattle.std.proofs.lemmas.Bool.Decides.{Decides-and, Decides-eqb, Decides-like}
 use Rattle.bts_command.specs.contracts.ended.UnitKindPartialEq.TheImpl as unit_eq
@@ -8,10 +8,10 @@ use Rattle.bts_command.specs.declared.ended.UnitKind.TheVariants as unit
 use Rattle.bts_interp.specs.Jobs as jobs
 use Rattle.bts_names.specs.declared.key.Key.{Key}
 use Rattle.bts_names.specs.Names.{ActivityPath, same}
-use Rattle.bts_names.proofs.Sameness.{keys_exact, keys_same_where_equal, same_where_equal}
+use Rattle.bts_names.proofs.Sameness.{keys_same_where_equal, same_where_equal}
 use Rattle.bts_region.specs.Fitting.{IsOfDue}
-use Rattle.bts_tree.specs.Processes.{Process, no_process}
-use Rattle.bts_tree.specs.Repositories.{Processes, process_at, same_key}
+use Rattle.bts_tree.specs.Repositories.{Processes, process_at}
+use Rattle.bts_unit.proofs.Applied.{key_there}
 
 pub not_not : {b : Bool} → not b ≡ false → b ≡ true
 not_not {b} h = by b h
@@ -21,14 +21,6 @@ not_not {b} h = by b h
     by false h = cc
 
 -- ---- what stands under a key
-
-pub key_there : (key : Key) (repo : Processes) → (process_at key repo).key ≡ key
-key_there key [] = refl
-key_there key (s ∷ repo) = by (same_key key s.key) refl (key_there key repo)
-  where
-    by : (b : Bool) → same_key key s.key ≡ b → (process_at key repo).key ≡ key → (cond b s (process_at key repo)).key ≡ key
-    by true e i = sym (keys_exact key s.key e)
-    by false e i = i
 
 pub fits_so : (j : jobs.Job) (u : UnitKind) (key : Key) (repo : Processes) (moment : ℕ) (r : Bool) → j.moment ≡ moment → j.unit ≡ u → j.base.key ≡ key
     → IsTrue r ↔ (process_at j.base.key repo ≡ j.base) → IsTrue r ↔ IsOfDue j u (process_at key repo) moment

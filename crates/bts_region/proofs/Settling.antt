@@ -13,7 +13,7 @@ use Rattle.bts_region.specs.Enabled.{is_item_enabled, is_settled}
 use Rattle.bts_region.specs.Histories.{IsNext}
 use Rattle.bts_region.specs.Items.{clock_in, is_for, rows_in}
 use Rattle.bts_region.specs.Keeps.{Keeps, out_of, state_of}
-use Rattle.bts_region.specs.Kinds.{key_of}
+use Rattle.bts_command.specs.Kinds.{key_of}
 use Rattle.bts_region.specs.Positions.{Position, behind_all, origin}
 use Rattle.bts_region.specs.Regions.{offer, position_of, work}
 use Rattle.bts_region.specs.declared.region.Region.TheInside.{Inside}

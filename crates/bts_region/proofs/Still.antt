@@ -1,5 +1,5 @@
 -- What a region keeps where no unit ended: there is more room, or it is later.
-use Rattle.std.proofs.Common.{◌≡◌, ◌≤◌, ◌*◌, ℕ, List, length, map, Bool, true, ◌&&◌, ◌||◌, not, nat_eq, Option, None, Some, refl, sym, ap, ◌∙◌, subst, arith}
+use Rattle.std.proofs.Common.{◌≡◌, ◌≤◌, ◌*◌, ℕ, List, length, map, true, ◌&&◌, ◌||◌, not, nat_eq, Option, None, Some, sym, ap, ◌∙◌, subst, arith}
 use Rattle.std.specs.List.{AllByRecursion, list_all, list_any}
 use Rattle.bts_command.specs.declared.ended.UnitKind.{UnitKind}
 use Rattle.bts_command.specs.declared.ended.UnitKind.TheVariants as unit
@@ -10,14 +10,14 @@ use Rattle.bts_region.specs.Enabled.{is_enabled}
 use Rattle.bts_region.specs.Items.{has_turn, is_settle}
 use Rattle.bts_region.specs.Keeps.{AreFirst, IsNextOut, Keeps, out_of, state_of}
 use Rattle.bts_region.specs.Positions.{origin}
-use Rattle.bts_region.specs.Regions.{IsKept, RegionState, activations_of, are_all_apart, kinds_out, position_of}
+use Rattle.bts_region.specs.Regions.{IsKept, RegionState, activations_of, position_of}
 use Rattle.bts_region.specs.Serial.{activations_in}
 use Rattle.bts_region.specs.Today.{IsOfToday, IsSmall}
 use Rattle.bts_region.specs.declared.region.Region.TheInside.{Inside}
 use Rattle.bts_rows.specs.Bounds.{is_lone, is_within}
 use Rattle.bts_rows.proofs.Repositories.{lone_due}
 use Rattle.bts_session.specs.declared.session.Session.{Session}
-use Rattle.bts_tree.specs.Repositories.{Processes, due_in, ready_in, untold_in}
+use Rattle.bts_tree.specs.Repositories.{Processes, ready_in, untold_in}
 use Rattle.bts_tree.specs.Scopes.{is_empty}
 use Rattle.bts_tree.specs.Soundness.{AreSound}
 

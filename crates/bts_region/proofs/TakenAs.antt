@@ -22,8 +22,8 @@ use Rattle.bts_region.specs.Answers.{Takes, TakesOffer, ended_at_once, offer_alo
 use Rattle.bts_region.specs.AsStation.{IsRegionWithin, rest_of}
 use Rattle.bts_region.specs.Enabled.{least}
 use Rattle.bts_region.specs.Histories.{IsLegal, last_clock}
-use Rattle.bts_region.specs.Items.{clock_in}
-use Rattle.bts_region.specs.Kinds.{is_activation, items_of, key_of}
+use Rattle.bts_region.specs.Items.{clock_in, items_of}
+use Rattle.bts_command.specs.Kinds.{is_activation, key_of}
 use Rattle.bts_region.specs.Positions.{Position, behind_all}
 use Rattle.bts_region.specs.Regions.{IsKept, IsLeastOut, IsRegionInOrder, Offer, RegionState, all_done, idle, kinds_out, limit_met, offer, position_of, wait}
 use Rattle.bts_region.specs.Regions as regions

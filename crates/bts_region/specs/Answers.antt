@@ -16,7 +16,7 @@ use Rattle.bts_interp.specs.declared.station.Work.{Work}
 use Rattle.bts_interp.specs.declared.station.Work.TheVariants as work
 use Rattle.bts_region.specs.Histories.{IsNext}
 use Rattle.bts_region.specs.Items.{clock_in, rows_in}
-use Rattle.bts_region.specs.Kinds.{key_of}
+use Rattle.bts_command.specs.Kinds.{key_of}
 use Rattle.bts_region.specs.Positions.{behind_all, origin}
 use Rattle.bts_region.specs.Regions.{IsNextTicket, Offer, RegionState, all_done, limit_met, offer, position_of, wait}
 use Rattle.bts_region.specs.Regions as regions

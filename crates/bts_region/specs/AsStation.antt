@@ -5,7 +5,8 @@ use Rattle.bts_interp.specs.Items.{item_of}
 use Rattle.bts_interp.specs.Stations as answer
 use Rattle.bts_region.specs.Answers.{offer_alone}
 use Rattle.bts_region.specs.Histories.{IsWithin, last_clock}
-use Rattle.bts_region.specs.Kinds.{is_activation, items_of}
+use Rattle.bts_command.specs.Kinds.{is_activation}
+use Rattle.bts_region.specs.Items.{items_of}
 use Rattle.bts_region.specs.Regions.{RegionState, all_done, limit_met}
 use Rattle.bts_region.specs.Serial.{activations_in}
 

@@ -5,11 +5,10 @@ use Rattle.bts_command.specs.declared.ended.Ended.{Ended}
 use Rattle.bts_command.specs.declared.ended.UnitKind.{UnitKind}
 use Rattle.bts_command.specs.declared.ended.UnitKind.TheVariants as unit
 use Rattle.bts_interp.specs.Talks.{IsTalk}
-use Rattle.bts_interp.specs.Texts.{Texts}
 use Rattle.bts_region.specs.Enabled.{is_enabled}
 use Rattle.bts_region.specs.Items.{clock_in, is_for, rows_in}
 use Rattle.bts_interp.specs.Items.{item_done, texts_of}
-use Rattle.bts_region.specs.Kinds.{is_committed}
+use Rattle.bts_command.specs.Kinds.{is_committed}
 use Rattle.bts_region.specs.Positions.{Position, behind}
 use Rattle.bts_session.specs.declared.session.Session.{Session}
 use Rattle.bts_tree.specs.Repositories.{Processes, process_at}

@@ -1,20 +1,23 @@
 -- Units and their items, and whose turn it is.
 use Rattle.std.specs.Prelude.{◌≡◌, ℕ, ◌+◌, Bool, true, false, not, ◌&&◌, ◌||◌, nat_eq, nat_lt, List, [], Option, Some, None}
-use Rattle.std.specs.List.{EachIndex, count_by, filter, list_all, list_any}
+use Rattle.std.specs.List.{EachIndex, count_by, filter, filter_map, list_all, list_any}
 use Rattle.bts_names.specs.declared.key.Key.{Key}
 use Rattle.bts_names.specs.declared.row.Row.{Row}
 use Rattle.bts_browse.specs.Met.{is_met}
 use Rattle.bts_command.specs.declared.ended.Ended.{Ended}
 use Rattle.bts_command.specs.declared.ended.UnitKind.{UnitKind}
 use Rattle.bts_command.specs.declared.ended.UnitKind.TheVariants as unit
-use Rattle.bts_interp.specs.Items.{Numbered, numbered}
-use Rattle.bts_region.specs.Kinds.{items_of}
+use Rattle.bts_interp.specs.Items.{Numbered, item_of, numbered}
 use Rattle.bts_session.specs.declared.session.Item.{Item}
 use Rattle.bts_session.specs.declared.session.Item.TheVariants as item
 use Rattle.bts_session.specs.declared.session.Session.{Session}
 use Rattle.bts_tree.specs.Repositories.{Processes, rows, same_key}
 
 -- ---- units and their items
+
+-- the items that a history names
+abbrev pub items_of : List Ended → List ℕ
+items_of h = filter_map (λ e. item_of e.unit) h
 
 -- the unit that does an item
 abbrev pub unit_of : ℕ → Item → UnitKind

@@ -1,14 +1,13 @@
 -- What the fields of a region keep.
-use Rattle.std.specs.Prelude.{◌≡◌, ℕ, ◌+◌, ◌*◌, ◌≤◌, Bool, ◌&&◌, nat_le, nat_lt, List, [], ◌∷◌, length, map, Option, Some, None, option_to_list, true}
-use Rattle.std.specs.List.{count_by, list_all}
+use Rattle.std.specs.Prelude.{◌≡◌, ℕ, ◌+◌, ◌*◌, ◌≤◌, ◌&&◌, nat_le, nat_lt, List, [], ◌∷◌, length, Option, Some, None, true}
+use Rattle.std.specs.List.{list_all}
 use Rattle.bts_command.specs.declared.ended.UnitKind.{UnitKind}
 use Rattle.bts_command.specs.declared.ended.UnitKind.TheVariants as unit
 use Rattle.bts_interp.specs.Names.{Named}
 use Rattle.bts_interp.specs.Stations.{Out}
 use Rattle.bts_interp.specs.Items.{item_at}
 use Rattle.bts_region.specs.Items.{has_ended, is_for}
-use Rattle.bts_region.specs.Kinds.{is_activation}
-use Rattle.bts_region.specs.Positions.{behind_all, origin}
+use Rattle.bts_region.specs.Positions.{origin}
 use Rattle.bts_region.specs.Regions.{IsKept, RegionState, activations_of, position_of}
 use Rattle.bts_region.specs.Serial.{activations_in}
 use Rattle.bts_region.specs.Today.{IsOfToday, IsSmall}

@@ -1,4 +1,3 @@
-pub mod Kinds
 pub mod Items
 pub mod Positions
 pub mod Enabled

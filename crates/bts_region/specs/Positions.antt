@@ -2,7 +2,7 @@
 use Rattle.std.specs.Prelude.{ℕ, ◌+◌, cond, List, [], ◌∷◌, Option, Some, None}
 use Rattle.std.specs.List.{fold}
 use Rattle.bts_command.specs.declared.ended.Ended.{Ended}
-use Rattle.bts_region.specs.Kinds.{is_committed}
+use Rattle.bts_command.specs.Kinds.{is_committed}
 use Rattle.bts_interp.specs.Items.{item_of}
 use Rattle.bts_tree.specs.Repositories.{Processes}
 use Rattle.bts_tree.specs.declared.opening.Opening.{Opening}

@@ -7,7 +7,8 @@ use Rattle.bts_command.specs.declared.ended.UnitKind.{UnitKind}
 use Rattle.bts_interp.specs.Stations.{Out}
 use Rattle.bts_region.specs.Enabled.{is_enabled, least, works}
 use Rattle.bts_region.specs.Histories.{IsLegal}
-use Rattle.bts_region.specs.Kinds.{is_activation, items_of, key_of}
+use Rattle.bts_command.specs.Kinds.{is_activation, key_of}
+use Rattle.bts_region.specs.Items.{items_of}
 use Rattle.bts_region.specs.Positions.{Position, behind_all}
 use Rattle.bts_region.specs.Serial.{IsInOrder, activations_in}
 use Rattle.bts_session.specs.declared.session.Session.{Session}

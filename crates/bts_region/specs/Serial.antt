@@ -5,7 +5,7 @@ use Rattle.bts_command.specs.declared.ended.Ended.{Ended}
 use Rattle.bts_command.specs.declared.ended.UnitKind.{UnitKind}
 use Rattle.bts_region.specs.Enabled.{least}
 use Rattle.bts_region.specs.Histories.{IsClocked, IsLegal}
-use Rattle.bts_region.specs.Kinds.{is_activation}
+use Rattle.bts_command.specs.Kinds.{is_activation}
 use Rattle.bts_region.specs.Positions.{Position, behind, behind_all}
 use Rattle.bts_session.specs.declared.session.Session.{Session}
 

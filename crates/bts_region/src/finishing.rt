@@ -4,7 +4,7 @@ ghost use Rattle.bts_interp.specs.Items.{texts_of};
 ghost use Rattle.bts_interp.specs.Ready.{IsRunnable};
 ghost use Rattle.bts_region.specs.Answers.{Ends, Fits, Refuses};
 ghost use Rattle.bts_region.specs.Fitting.{IsOfDue, job_of};
-ghost use Rattle.bts_region.specs.Kinds as kinds;
+ghost use Rattle.bts_command.specs.Kinds as kinds;
 ghost use Rattle.bts_tree.specs.Repositories.{has_room, process_at};
 ghost use Rattle.bts_unit.specs.Playing as playing;
 
@@ -25,31 +25,6 @@ struct Due {
     unit: UnitKind,
     key: Key,
     moment: Moment,
-}
-
-/// The key of the process that a unit holds.
-pub(crate) fn key_of(unit: &UnitKind) -> Option<Key>
-    ensures { result ≡ kinds.key_of unit.now }
-{
-    match unit {
-        UnitKind::Request { key, .. } => Some(*key),
-        UnitKind::Activation { key, .. } => Some(*key),
-        UnitKind::Notice { key, .. } => Some(*key),
-        UnitKind::Expiry { key, .. } => Some(*key),
-        _ => None,
-    }
-}
-
-fn is_activation(unit: &UnitKind) -> bool
-    ensures { result ≡ kinds.is_activation unit.now }
-{
-    matches!(unit, UnitKind::Activation { .. })
-}
-
-fn is_rollback(end: &End) -> bool
-    ensures { result ≡ kinds.is_rollback end.now }
-{
-    matches!(end, End::Rollback)
 }
 
 fn is_same(a: &UnitKind, b: &UnitKind) -> bool
@@ -143,7 +118,7 @@ fn put_back(repository: &mut Repository, after: Scope, end: &End)
     requires { has_room after.process.key repository.old ≡ true }
     ensures { repository.new.processes ≡ playing.put_back end.now (Some after.process) repository.old.processes }
 {
-    if !is_rollback(end) {
+    if !end.is_rollback() {
         repository.put_scope(after);
     }
 }
@@ -176,7 +151,7 @@ impl<N: Naming> Region<N> {
         if ticket != 0 {
             return Err((FinishError::NotOut { ticket }, done));
         }
-        let Some(key) = key_of(&unit) else {
+        let Some(key) = unit.key() else {
             unreachable!()
         };
         let due = Due {
@@ -201,8 +176,8 @@ impl<N: Naming> Region<N> {
         fitted.facts();
         fitted.job().facts();
         let (calls, after, end) = fitted.into_result();
-        let is_committed = !is_rollback(&end);
-        let is_activation = is_activation(&due.unit);
+        let is_committed = !end.is_rollback();
+        let is_activation = due.unit.is_activation();
         put_back(&mut self.repository, after, &end);
         self.units += u64::from(is_committed);
         self.activations += u64::from(is_activation);

@@ -1,11 +1,11 @@
 //! Which work is enabled where a history has come to, which histories of a session are legal, and which one is serial; and
 //! the region, in memory, in which a session's units are given out and end.
 //!
-//! In `specs/`: `Kinds` (which units do items, and which are committed), `Items` (the items of a session and whose turn it
-//! is), `Positions` (where a history has come to), `Enabled` (the work that may be taken there, in order), `Histories`
-//! (legal and clocked histories), `Serial` (the serial one), `Regions` (what is answered to whoever asks for work),
-//! `Answers` (what each call of a region answers and leaves), `AsStation` (a region as a station), `Today` (the sessions
-//! that a region does today) and `Keeps` (what its fields keep).
+//! In `specs/`: `Items` (the items of a session, which units do them, and whose turn it is), `Positions` (where a history
+//! has come to), `Enabled` (the work that may be taken there, in order), `Histories` (legal and clocked histories),
+//! `Serial` (the serial one), `Regions` (what is answered to whoever asks for work), `Answers` (what each call of a region
+//! answers and leaves), `AsStation` (a region as a station), `Today` (the sessions that a region does today) and `Keeps`
+//! (what its fields keep).
 #![tactic(auto)]
 
 mod finding;

@@ -4,12 +4,11 @@ ghost use Rattle.bts_interp.specs.Items.{texts_of};
 ghost use Rattle.bts_interp.specs.Ready.{IsRunnable};
 ghost use Rattle.bts_region.specs.Answers.{Takes, TakesOffer, offer_alone};
 ghost use Rattle.bts_region.specs.Fitting.{job_of};
-ghost use Rattle.bts_region.specs.Kinds.{key_of};
+ghost use Rattle.bts_command.specs.Kinds.{key_of};
 ghost use Rattle.bts_region.specs.Regions.{offer, work};
 ghost use Rattle.bts_tree.specs.Repositories.{process_at};
 
 use crate::finding::Found;
-use crate::finishing::key_of;
 use crate::region::Region;
 use bts_command::{Calls, End, Ended, UnitKind};
 use bts_interp::{Job, Naming, Work};
@@ -58,7 +57,7 @@ impl<N: Naming> Region<N> {
         requires alone { self.old.out ≡ [] }
         ensures { Takes self.old self.new unit.now (key_of unit.now) result }
     {
-        match key_of(unit) {
+        match unit.key() {
             Some(key) => self.give_out(unit, &key),
             None => self.end_item(*unit),
         }

@@ -6,7 +6,7 @@ use Rattle.bts_driver.specs.declared.driver.Stop.{Stop}
 use Rattle.bts_driver.specs.declared.driver.Stop.TheVariants as stop
 use Rattle.bts_region.specs.Enabled.{least, works}
 use Rattle.bts_region.specs.Items.{EachItemOnce}
-use Rattle.bts_region.specs.Kinds.{is_activation}
+use Rattle.bts_command.specs.Kinds.{is_activation}
 use Rattle.bts_region.specs.Positions.{behind_all, origin}
 use Rattle.bts_region.specs.Serial.{IsInOrder, IsSerial, activations_in}
 use Rattle.bts_session.specs.declared.session.Session.{Session}

@@ -19,13 +19,13 @@ use Rattle.bts_tree.specs.declared.activity.Activity.{Activity}
 
 -- ---- the fields of an activity
 
-name_or_none-Decides : (a b : Option Name) → Decides (option_eq same a b) (a ≡ b)
+pub name_or_none-Decides : (a b : Option Name) → Decides (option_eq same a b) (a ≡ b)
 name_or_none-Decides None None = (λ h. refl, λ h. refl)
 name_or_none-Decides None (Some b) = (λ h. cc, λ h. cc)
 name_or_none-Decides (Some a) None = (λ h. cc, λ h. cc)
 name_or_none-Decides (Some a) (Some b) = Decides-like _ (λ e. ap Some e) (λ e. cc) (same_where_equal a b)
 
-mode-Decides : (a b : Mode) → Decides (mode_eq.ghosts.eq a b) (a ≡ b)
+pub mode-Decides : (a b : Mode) → Decides (mode_eq.ghosts.eq a b) (a ≡ b)
 mode-Decides mode.Initial mode.Initial = (λ h. refl, λ h. refl)
 mode-Decides mode.Initial mode.Active = (λ h. cc, λ h. cc)
 mode-Decides mode.Initial mode.Dormant = (λ h. cc, λ h. cc)
@@ -43,7 +43,7 @@ mode-Decides mode.Complete mode.Active = (λ h. cc, λ h. cc)
 mode-Decides mode.Complete mode.Dormant = (λ h. cc, λ h. cc)
 mode-Decides mode.Complete mode.Complete = (λ h. refl, λ h. refl)
 
-status-Decides : (a b : Status) → Decides (status_eq.ghosts.eq a b) (a ≡ b)
+pub status-Decides : (a b : Status) → Decides (status_eq.ghosts.eq a b) (a ≡ b)
 status-Decides status.Incomplete status.Incomplete = (λ h. refl, λ h. refl)
 status-Decides status.Incomplete status.Normal = (λ h. cc, λ h. cc)
 status-Decides status.Incomplete status.Abend = (λ h. cc, λ h. cc)

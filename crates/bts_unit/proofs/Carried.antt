@@ -61,6 +61,11 @@ few_case [] h = tt
 few_case (f ∷ []) h = refl
 few_case (f ∷ g ∷ fs) h = omega arith
 
+pub few_by_stand : (at : Option ActivityPath) (fs : List OpenFrame) → StandsIn at fs → length fs ≤ 1
+few_by_stand at [] h = omega arith
+few_by_stand at (f ∷ []) h = omega arith
+few_by_stand at (f ∷ g ∷ fs) h = absurd h
+
 pub stands_in : (u : UnitOfWork) → length u.frames ≤ 1 → StandsIn (top_path u.frames) u.frames
 stands_in u h = few_case u.frames h
 
@@ -273,6 +278,12 @@ module _ (P : ℕ → List ActivityPath → Process → Type 0) (Asked : Option 
   pub calls : (n : ℕ) (u : UnitOfWork) (c : Command) → length u.frames ≤ 1 → Asked (top_path u.frames) c → is_of_one_frame (top_path u.frames) c ≡ true → Counted n u → Counted n (call u c).1
   unfolding call
   calls n u c few asked i h = (called_case n (top_path u.frames) c u u.frames asked i (h, stands_in u few)).0
+
+  -- the frame is the same then, or has ended
+  pub stays_in : (n : ℕ) (u : UnitOfWork) (c : Command) → length u.frames ≤ 1 → Asked (top_path u.frames) c → is_of_one_frame (top_path u.frames) c ≡ true → Counted n u
+      → StandsIn (top_path u.frames) (call u c).1.frames
+  unfolding call
+  stays_in n u c few asked i h = (called_case n (top_path u.frames) c u u.frames asked i (h, stands_in u few)).1
 
   -- ---- commands one after the other
 

@@ -1,4 +1,6 @@
 pub mod InFrames
+pub mod OneByOne
+pub mod Opening
 pub mod Shown
 pub mod Performed
 pub mod Replayed
@@ -6,3 +8,8 @@ pub mod Carried
 pub mod SoundUnits
 pub mod Rising
 pub mod BoundedUnits
+pub mod Callable
+pub mod Repeated
+pub mod Applied
+pub mod Alike
+pub mod AtEnd

@@ -1,5 +1,6 @@
 -- A unit is what its beginning, its calls and the code that stopped it give.
 use Rattle.std.proofs.Common.{◌≡◌, ◌≤◌, ℕ, true, false, List, [], ◌∷◌, ◌++◌, Option, Some, None, is_some, is_none, length, option_to_list, refl, sym, ap, ◌∙◌, subst, arith}
+use Rattle.std.proofs.lemmas.List.{map-append}
 use Rattle.std.specs.List.{filter_map}
 use Rattle.std.specs.Option.{option_map, unwrap_or}
 use Rattle.bts_names.specs.Names.{Name, ActivityPath}
@@ -12,7 +13,7 @@ use Rattle.bts_tree.specs.declared.activity.Activity.{Activity}
 use Rattle.bts_tree.specs.Activities.{is_ready}
 use Rattle.bts_tree.specs.Processes.{Process, activity_at}
 use Rattle.bts_tree.specs.Scopes.{HeldProcess}
-use Rattle.bts_unit.specs.Calls.{call, called_by, called_in, called_in_top, called_on_top, commands_of, run, with_call}
+use Rattle.bts_unit.specs.Calls.{call, called_by, called_in_top, called_on_top, commands_of, run, with_call}
 use Rattle.bts_unit.specs.Ends.{abended_whole}
 use Rattle.bts_unit.specs.Ends as ends
 use Rattle.bts_unit.specs.Frames.{OpenFrame, UnitOfWork, is_there_at, open_paths, path_of, start}
@@ -23,6 +24,7 @@ use Rattle.bts_unit.specs.Replays.{IsWorkOf, behind_calls, top_path}
 use Rattle.bts_unit.specs.Standings.{with_process}
 use Rattle.bts_unit.specs.declared.work.FirstFrame.{FirstFrame}
 use Rattle.bts_unit.specs.declared.work.Work.{Work}
+use Rattle.bts_unit.proofs.OneByOne.{first_call, run_append}
 use Rattle.bts_unit.proofs.Performed.{abends_go_on}
 use Rattle.bts_unit.proofs.Shown as shown
 
@@ -49,22 +51,7 @@ run_none u = refl
 
 -- one command more is one call more
 run_more : (u : UnitOfWork) (cs : List Command) (c : Command) → run u (cs ++ c ∷ []) ≡ (call (run u cs) c).1
-unfolding run call
-run_more u [] c = by u.frames
-  where
-    by : (fs : List OpenFrame) → elim fs [ [] ↦ u | f ∷ fs' ↦ (with_call c (called_in f fs' u c)).1 ] ≡ (called_by fs u c).1
-    by [] = refl
-    by (f ∷ fs) = refl
-run_more u (d ∷ cs) c = by u.frames refl (λ v. run_more v cs c)
-  where
-    by : (fs : List OpenFrame) → u.frames ≡ fs → ((v : UnitOfWork) → run v (cs ++ c ∷ []) ≡ (call (run v cs) c).1)
-        → elim fs [ [] ↦ u | f ∷ fs' ↦ run (with_call d (called_in f fs' u d)).1 (cs ++ c ∷ []) ] ≡ (call (elim fs [ [] ↦ u | f ∷ fs' ↦ run (with_call d (called_in f fs' u d)).1 cs ]) c).1
-    by [] e more = sym (ap (λ fs. (called_by fs u c).1) e)
-    by (f ∷ fs) e more = more (with_call d (called_in f fs u d)).1
-
-commands_more : (calls : List Call) (x : Call) → commands_of (calls ++ x ∷ []) ≡ commands_of calls ++ x.command ∷ []
-commands_more [] x = refl
-commands_more (y ∷ calls) x = ap (λ cs. y.command ∷ cs) (commands_more calls x)
+run_more u cs c = run_append u cs (c ∷ []) ∙ first_call (run u cs) c [] ∙ run_none (call (run u cs) c).1
 
 -- a unit whose frame is open makes a call on its top frame
 call_on_top : (u : UnitOfWork) (fs : List OpenFrame) (f : OpenFrame) (c : Command) → u.frames ≡ f ∷ fs → call u c ≡ with_call c (called_on_top c u)
@@ -155,7 +142,7 @@ replayed_more kind w new calls stopped x e goes =
     ap (behind_calls kind new (calls ++ x ∷ [])) e
     ∙ ap (λ m. run (start kind m new.base.process) (commands_of (calls ++ x ∷ []))) goes.moment
     ∙ ap (λ b. run (start kind w.moment b.process) (commands_of (calls ++ x ∷ []))) goes.base
-    ∙ ap (run (start kind w.moment w.base.process)) (commands_more calls x)
+    ∙ ap (run (start kind w.moment w.base.process)) (map-append (λ c. c.command) calls (x ∷ []))
     ∙ run_more (start kind w.moment w.base.process) (commands_of calls) x.command
     ∙ sym (ap (λ o. (call (behind_calls kind w calls o) x.command).1) e)
 

@@ -21,7 +21,7 @@ use Rattle.bts_act.proofs.Late.{sound_none_early}
 use Rattle.bts_unit.specs.Calls.{call, run}
 use Rattle.bts_unit.specs.Ends.{abended_whole}
 use Rattle.bts_unit.specs.Frames.{OpenFrame, UnitOfWork, is_there_at, open_paths, path_of, start}
-use Rattle.bts_unit.specs.OneFrame.{is_of_one_frame, may_begin}
+use Rattle.bts_unit.specs.OneFrame.{StandsIn, is_of_one_frame, may_begin}
 use Rattle.bts_unit.specs.Replays.{top_path}
 use Rattle.bts_unit.specs.Soundness.{IsSoundUnit, may_open, paths_of}
 use Rattle.bts_unit.proofs.Carried.{Carries}
@@ -65,6 +65,11 @@ starts_sound = carried.starts sound given sound_carries 0
 
 pub stays_sound : (u : UnitOfWork) (c : Command) → length u.frames ≤ 1 → IsGiven c → is_of_one_frame (top_path u.frames) c ≡ true → IsSoundUnit u → IsSoundUnit (call u c).1
 stays_sound = carried.calls sound given sound_carries 0
+
+-- its frame is the same behind a call, or has ended
+pub stays_in_frame : (u : UnitOfWork) (c : Command) → length u.frames ≤ 1 → IsGiven c → is_of_one_frame (top_path u.frames) c ≡ true → IsSoundUnit u
+    → StandsIn (top_path u.frames) (call u c).1.frames
+stays_in_frame = carried.stays_in sound given sound_carries 0
 
 pub runs_sound : (kind : UnitKind) (moment : ℕ) (s : Process) (cs : List Command) → may_begin kind s ≡ true → IsSoundInFrames [] s
     → AllByRecursion (λ c. IsGiven c × (is_of_one_frame (path_of kind) c ≡ true)) cs → IsSoundUnit (run (start kind moment s) cs)

@@ -109,3 +109,16 @@ run u (c ∷ cs) = elim u.frames [ [] ↦ u | f ∷ fs ↦ run (with_call c (cal
 
 abbrev pub commands_of : List Call → List Command
 commands_of calls = map (λ c. c.command) calls
+
+-- the unit behind the commands of some calls
+unfoldable pub unit_behind : UnitOfWork → List Call → UnitOfWork
+unit_behind u calls = run u (commands_of calls)
+
+-- the calls that commands make, as far as the unit hasn't ended
+abbrev pub made_first : List OpenFrame → Call → List Call → List Call
+made_first [] c cs = []
+made_first (f ∷ fs) c cs = c ∷ cs
+
+abbrev pub made : UnitOfWork → List Command → List Call
+made u [] = []
+made u (k ∷ ks) = made_first u.frames (record { command = k; reply = (call u k).0 }) (made (call u k).1 ks)

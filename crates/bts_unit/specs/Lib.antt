@@ -9,3 +9,4 @@ pub mod OneFrame
 pub mod OnWork
 pub mod Replays
 pub mod Soundness
+pub mod Refusals

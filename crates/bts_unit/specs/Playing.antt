@@ -2,22 +2,19 @@
 use Rattle.std.specs.Prelude.{◌≡◌, ℕ, Bool, true, false, cond, ◌||◌, [], Option, Some, None, IsTrue, codes}
 use Rattle.std.specs.Option.{option_map, unwrap_or}
 use Rattle.bts_names.specs.Names.{Name, ActivityPath, same}
-use Rattle.bts_names.specs.Named.{lookup}
 use Rattle.bts_names.specs.declared.key.Key.{Key}
 use Rattle.bts_command.specs.declared.ended.End.{End}
 use Rattle.bts_command.specs.declared.ended.End.TheVariants.{Commit, Rollback, Abend}
 use Rattle.bts_command.specs.declared.ended.Ended.{Ended}
 use Rattle.bts_command.specs.declared.ended.UnitKind.{UnitKind}
 use Rattle.bts_command.specs.declared.ended.UnitKind.TheVariants as unit
-use Rattle.bts_timer.specs.Due.{is_due}
-use Rattle.bts_timer.specs.Timers.{Timers}
 use Rattle.bts_tree.specs.Activities.{is_untold}
 use Rattle.bts_tree.specs.Processes.{Process, activity_at}
 use Rattle.bts_tree.specs.Repositories.{Processes, process_at, put, is_ready_at}
 use Rattle.bts_unit.specs.Calls.{run, commands_of}
 use Rattle.bts_unit.specs.Ends.{abended_whole}
 use Rattle.bts_unit.specs.Frames.{UnitOfWork, start}
-use Rattle.bts_unit.specs.Systems.{system}
+use Rattle.bts_unit.specs.Systems.{has_due, system}
 
 -- ---- a unit played again
 
@@ -51,9 +48,6 @@ finished e s = budgeted e.end (replayed e s)
 
 abbrev pub is_untold_at : Key → ActivityPath → Processes → Bool
 is_untold_at key p repo = unwrap_or (option_map is_untold (activity_at p (process_at key repo))) false
-
-abbrev pub has_due : ℕ → Name → Timers → Bool
-has_due now t timers = unwrap_or (option_map (is_due now) (lookup t timers)) false
 
 abbrev pub is_due_at : ℕ → Key → ActivityPath → Name → Processes → Bool
 is_due_at now key p t repo = unwrap_or (option_map (λ a. has_due now t a.timers) (activity_at p (process_at key repo))) false

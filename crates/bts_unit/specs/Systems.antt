@@ -1,15 +1,18 @@
 -- Units of work without calls: notices and expiries.
-use Rattle.std.specs.Prelude.{ℕ, true, [], Some}
+use Rattle.std.specs.Prelude.{ℕ, Bool, true, false, [], Some}
+use Rattle.std.specs.Option.{option_map, unwrap_or}
 use Rattle.bts_names.specs.Names.{Name, ActivityPath}
+use Rattle.bts_names.specs.Named.{lookup}
 use Rattle.bts_names.specs.declared.state.TimerStatus.TheVariants as timer
 use Rattle.bts_command.specs.declared.ended.End.TheVariants.{Commit}
 use Rattle.bts_command.specs.declared.ended.UnitKind.{UnitKind}
 use Rattle.bts_command.specs.declared.ended.UnitKind.TheVariants as unit
 use Rattle.bts_event.specs.Events.{completion_of, event_of}
-use Rattle.bts_timer.specs.Timers.{with_status}
+use Rattle.bts_timer.specs.Due.{is_due}
+use Rattle.bts_timer.specs.Timers.{Timers, with_status}
 use Rattle.bts_tree.specs.declared.activity.Activity.{Activity}
 use Rattle.bts_tree.specs.Paths.{number_of, parent_of}
-use Rattle.bts_tree.specs.Processes.{Process, edited, with_pool}
+use Rattle.bts_tree.specs.Processes.{Process, activity_at, edited, with_pool}
 use Rattle.bts_rows.specs.ActRows.{fired_if}
 use Rattle.bts_rows.specs.declared.held.Held.TheVariants as held
 use Rattle.bts_unit.specs.Frames.{UnitOfWork}
@@ -44,3 +47,12 @@ system kind moment s =
       calls = [];
       end = Some Commit;
     }
+
+-- ---- when a process lets a timer expire
+
+abbrev pub has_due : ℕ → Name → Timers → Bool
+has_due now t timers = unwrap_or (option_map (is_due now) (lookup t timers)) false
+
+abbrev pub may_expire : UnitKind → ℕ → Process → Bool
+may_expire (unit.Expiry key path timer) moment s = unwrap_or (option_map (λ a. has_due moment timer a.timers) (activity_at path s)) false
+may_expire _ moment s = false

@@ -2,22 +2,29 @@
 //!
 //! The definitions are in `specs/`: `Marks` and `Standings` (a process with an account of its entries), `Frames` (open
 //! frames, and how a unit begins), `Ends` (how frames end), `Calls` (one call, and calls one after the other), `Systems`
-//! (notices and expiries), `Playing` (which ended units play, and what stands behind them) and `Soundness` (when a unit
-//! is sound).
+//! (notices and expiries), `Playing` (which ended units play, and what stands behind them), `Refusals` (why one isn't
+//! applied) and `Soundness` (when a unit is sound).
 #![tactic(auto)]
 
+mod apply_error;
+mod applying;
 mod beginning;
 mod change;
 mod codes;
 mod ending;
+mod expiring;
 mod frame;
 mod laws;
 mod performing;
+mod repeating;
 mod rows;
 mod unit;
 mod work;
 
+pub use apply_error::ApplyError;
+pub use applying::apply;
 pub use change::Change;
+pub use expiring::system;
 pub use frame::Frame;
 pub use laws::{
     a_lone_root_stays_alone, a_sound_unit_goes_on, a_unit_starts_sound,
@@ -26,5 +33,7 @@ pub use laws::{
 };
 pub use unit::Unit;
 
+#[cfg(test)]
+mod replay_tests;
 #[cfg(test)]
 mod tests;

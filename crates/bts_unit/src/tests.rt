@@ -7,14 +7,16 @@ ghost use Rattle.bts_tree.specs.Soundness.{numbers_below};
 ghost use Rattle.bts_command.specs.Given.{IsGiven, is_systems};
 ghost use Rattle.bts_act.specs.Early.{none_early};
 ghost use Rattle.bts_unit.specs.Frames.{start};
+ghost use Rattle.bts_names.specs.declared.key.Key.{Key};
 ghost use Rattle.bts_unit.specs.OneFrame.{is_of_one_frame, is_ready_in};
+ghost use Rattle.bts_unit.specs.Systems.{may_expire};
 
-use crate::{Change, Frame, Unit};
+use crate::{Change, Frame, Unit, system};
 use bts_act::none_is_early;
-use bts_command::{Command, End, Target, UnitKind};
+use bts_command::{Command, Due, End, Target, UnitKind};
 use bts_names::{
     Abcode, Key, Leaving, Mode, Moment, Name16, Path, ProcName, ProcType, ProgName, Reason, Resp,
-    Transid, Value,
+    TimerStatus, Transid, Value,
 };
 use bts_tree::{Activity, Scope};
 use std::alloc::Global;
@@ -25,6 +27,7 @@ use std::test::Fail;
 #[derive(Clone, Copy)]
 enum Step {
     Input,
+    Timer,
     Reattach,
     Return,
     Rollback,
@@ -188,12 +191,29 @@ fn input() -> Option<Command>
     Some(Command::DefineInput { event })
 }
 
+/// A timer that is due at once.
+fn timer() -> Option<Command>
+    ensures given { IfSome result (λ c. IsGiven c) }
+    ensures one_frame { IfSome result (λ c. IsTrue (is_of_one_frame (Some []) c)) }
+{
+    let timer = Name16::read(b"T").ok()?;
+    if !is_free(timer) {
+        return None;
+    }
+    Some(Command::DefineTimer {
+        timer,
+        event: None,
+        due: Due::After(0),
+    })
+}
+
 fn command_of(step: Step) -> Option<Command>
     ensures given { IfSome result (λ c. IsGiven c) }
     ensures one_frame { IfSome result (λ c. IsTrue (is_of_one_frame (Some []) c)) }
 {
     match step {
         Step::Input => input(),
+        Step::Timer => timer(),
         Step::Reattach => Some(Command::RetrieveReattach),
         Step::Return => Some(Command::Return {
             end_activity: false,
@@ -340,5 +360,57 @@ fn stays_open(alloc: Global, resp: Resp, reason: Reason) -> bool {
 fn programs_roll_nothing_back(rt: HostRuntime) -> Result<(), Fail> {
     let alloc = rt.alloc();
     assert!(rt; stays_open(alloc, Resp::Invreq, Reason::Place));
+    Ok(())
+}
+
+/// Whether that timer of the root is due.
+fn is_due(scope: &Scope, timer: Name16, moment: Moment) -> bool
+    ensures { IsTrue result → (key : Key) → IsTrue (may_expire (unit.Expiry key [] timer) moment scope.now.process) }
+{
+    match scope.activity(&Path::root()) {
+        Some(root) => match root.timers.get(timer) {
+            Some(found) => found.is_due(moment),
+            None => false,
+        },
+        None => false,
+    }
+}
+
+/// What the expiry of that timer leaves of the root: whether it commits, and how many entries wait.
+fn expires(alloc: Global, scope: Scope, key: Key, timer: Name16, moment: Moment) -> Option<u64> {
+    if !is_due(&scope, timer, moment) {
+        return None;
+    }
+    if !none_is_early(&scope) || !numbered(&scope) {
+        return None;
+    }
+    let path = Path::root();
+    let change = system(alloc, scope, UnitKind::Expiry { key, path, timer }, moment).ok()?;
+    let root = change.after.activity(&path)?;
+    let expired = root.timers.get(timer)?.status == TimerStatus::Expired;
+    if !expired || change.end != End::Commit || !change.calls.is_empty() {
+        return None;
+    }
+    Some(root.pool.queued())
+}
+
+/// The root behind an activation that defined the timer.
+fn with_timer(alloc: Global) -> Option<Scope> {
+    let mut unit = an_activation(alloc)?;
+    let steps = [Step::Reattach, Step::Timer, Step::Return];
+    if !call_all(&mut unit, &steps) || !unit.has_ended() {
+        return None;
+    }
+    Some(unit.end().after)
+}
+
+#[test]
+fn timers_expire(rt: HostRuntime) -> Result<(), Fail> {
+    let alloc = rt.alloc();
+    let timer = Name16::read(b"T")?;
+    let moment = Moment::from_seconds(0).expect(&rt, "a moment");
+    let scope = with_timer(alloc).expect(&rt, "a timer");
+    let key = scope.key();
+    assert_eq!(rt; expires(alloc, scope, key, timer, moment), Some(1));
     Ok(())
 }

@@ -19,10 +19,10 @@ use Rattle.bts_forms.specs.declared.statement.Statement.TheVariants as statement
 use Rattle.bts_session.specs.declared.session.Item.TheVariants as item
 use Rattle.bts_session.specs.declared.session.Session.{Session}
 use Rattle.bts_unit.specs.Calls as calls
-use Rattle.bts_unit.specs.Calls.{call, called_in}
+use Rattle.bts_unit.specs.Calls.{call, called_in, unit_behind}
 use Rattle.bts_unit.specs.Standings.{moved, retrieving}
 use Rattle.bts_interp.specs.Budgets.{due_end, statements_with}
-use Rattle.bts_interp.specs.NextCalls.{next_call, own_calls, unit_behind}
+use Rattle.bts_interp.specs.NextCalls.{next_call, own_calls}
 use Rattle.bts_interp.specs.Steps.{next, place_behind}
 use Rattle.bts_region.specs.Enabled.{works}
 use Rattle.bts_region.specs.Histories.{IsLegal, IsNext}

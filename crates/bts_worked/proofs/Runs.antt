@@ -29,12 +29,12 @@ use Rattle.bts_script.specs.Blocks.{Refusal, statements}
 use Rattle.bts_session.specs.Sessions.{nothing, outside, sections_of, section_in, sections_in, session_in}
 use Rattle.bts_session.specs.declared.session.Session.{Session}
 use Rattle.bts_report.specs.Reports.{call_line, list_line, list_text, row_line, unit_line, unit_text, report}
-use Rattle.bts_unit.specs.Calls.{call, called_in, run}
+use Rattle.bts_unit.specs.Calls.{call, called_in, run, unit_behind}
 use Rattle.bts_unit.specs.Frames.{UnitOfWork}
 use Rattle.bts_unit.specs.Playing.{begun}
 use Rattle.bts_unit.specs.Standings.{moved, retrieving}
 use Rattle.bts_interp.specs.Budgets.{due_end, statements_with}
-use Rattle.bts_interp.specs.NextCalls.{next_call, own_calls, unit_behind}
+use Rattle.bts_interp.specs.NextCalls.{next_call, own_calls}
 use Rattle.bts_interp.specs.Steps.{next, place_behind}
 use Rattle.bts_interp.specs.Texts.{Texts}
 use Rattle.bts_region.specs.Enabled.{least, works}

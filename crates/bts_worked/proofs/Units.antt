@@ -1,9 +1,10 @@
 -- Units of work: what their calls answer, how they end, what stands behind them, and the account of their entries.
-use Rattle.std.proofs.Common.{◌≡◌, ℕ, true, false, List, [], ◌∷◌, Option, Some, None, map, codes, refl}
+use Rattle.std.proofs.Common.{◌≡◌, ℕ, true, false, List, [], ◌∷◌, Option, Some, None, map, codes, inl, inr, refl, ap, arith}
 use Rattle.bts_names.specs.Names.{Name, ActivityPath, initial_name}
 use Rattle.bts_names.specs.declared.reply.Leaving.{Leaving}
 use Rattle.bts_names.specs.declared.reply.Leaving.TheVariants as leaving
 use Rattle.bts_names.specs.declared.reply.Reason.TheVariants as reason
+use Rattle.bts_names.specs.declared.reply.Resp.{Resp}
 use Rattle.bts_names.specs.declared.reply.Resp.TheVariants as resp
 use Rattle.bts_names.specs.declared.reply.Value.TheVariants as value
 use Rattle.bts_names.specs.declared.state.EventKind.TheVariants as kind
@@ -34,8 +35,10 @@ use Rattle.bts_unit.specs.Calls.{called_in}
 use Rattle.bts_unit.specs.Calls as calls
 use Rattle.bts_unit.specs.Frames.{UnitOfWork, start}
 use Rattle.bts_unit.specs.Playing.{Plays, IsReplay, after, budgeted, may_run}
+use Rattle.bts_unit.specs.Refusals.{IsCause}
 use Rattle.bts_unit.specs.Standings.{moved, retrieving}
 use Rattle.bts_unit.specs.Systems.{system}
+use Rattle.bts_unit.specs.declared.apply_error.ApplyError.TheVariants as error
 use Rattle.bts_worked.proofs.Tables.{Line, ◌answers◌, ok, event, normal, refusal, undefined, define_process, new, run, dormant, with_root}
 
 -- ---- the form of an example
@@ -398,3 +401,27 @@ another_end r = let e : Some Commit ≡ Some Rollback = r.end in cc
 call_behind_the_end : IsReplay (ended_unit (unit.Request 1 undefined.key) Commit (returns ∷ returns ∷ [])) undefined → false ≡ true
 unfolding calls.run called_in moved retrieving answer row act_row family_row request_row settled
 call_behind_the_end r = let e : map call_of (returns ∷ []) ≡ map call_of (returns ∷ returns ∷ []) = r.calls in cc
+
+-- ---- why a unit isn't applied
+
+unready_activation : IsCause (new ∷ []) (ended_unit (unit.Activation undefined.key []) Commit []) (error.NotLegal 0)
+unready_activation = inl (record { disabled = refl; uncounted = refl })
+
+end_alone_is_other : IsCause [] (defining Rollback) (error.NotLegal 0)
+unfolding calls.run called_in moved retrieving answer row act_row family_row request_row settled
+end_alone_is_other = inr (record { enabled = refl; other = inr (record { calls = refl; end = λ e. cc; uncounted = refl }) })
+
+abbrev first_resp : Option Call → Resp
+first_resp None = resp.End
+first_resp (Some c) = c.reply.resp
+
+first_reply_is_other : IsCause [] (ended_unit (unit.Request 1 undefined.key) Commit ((command.Return false answers refusal resp.Invreq reason.Place) ∷ [])) (error.NotLegal 1)
+unfolding calls.run called_in moved retrieving answer row act_row family_row request_row settled
+first_reply_is_other = inr (record { enabled = refl; other = inl (record { same_before = refl; is_told = omega arith; other = λ e. let r : resp.Normal ≡ resp.Invreq = ap first_resp e in cc }) })
+
+second_call_is_behind_the_end : IsCause [] (ended_unit (unit.Request 1 undefined.key) Commit (returns ∷ returns ∷ [])) (error.NotLegal 2)
+unfolding calls.run called_in moved retrieving answer row act_row family_row request_row settled
+second_call_is_behind_the_end = inr (record { enabled = refl; other = inl (record { same_before = refl; is_told = omega arith; other = λ e. cc }) })
+
+call_of_a_settle : IsCause [] (ended_unit (unit.Settle 2) Commit (returns ∷ [])) (error.NotLegal 1)
+call_of_a_settle = inr (record { enabled = refl; other = inl (record { same_before = refl; is_told = omega arith; other = λ e. cc }) })

@@ -1,4 +1,4 @@
-use Rattle.std.proofs.Common.{◌≡◌, ◌+◌, ◌++◌, ◌∷◌, [], ℕ, length, rules, refl, sym, ap, ◌∙◌, subst}
+use Rattle.std.proofs.Common.{◌≡◌, ◌+◌, ◌++◌, ◌∷◌, [], length, rules, refl, ap, ◌∙◌, subst}
 use Rattle.bts_command.specs.declared.ended.End.TheVariants.{Commit}
 use Rattle.bts_region.specs.Answers.{ended_at_once, with_ended, with_moment}
 use Rattle.bts_region.specs.Keeps.{state_of}

@@ -1,11 +1,10 @@
-use Rattle.std.proofs.Common.{◌≡◌, ◌≤◌, ◌+◌, ◌++◌, ◌∷◌, [], length, rules, not, cond, true, None, Some, refl, sym, ap, ◌∙◌, subst, arith}
+use Rattle.std.proofs.Common.{◌≡◌, ◌+◌, ◌++◌, ◌∷◌, [], length, rules, not, cond, true, None, Some, refl, sym, ap, ◌∙◌, subst, arith}
 use Rattle.std.specs.Int.{from_bool}
 use Rattle.bts_interp.specs.Items.{texts_of}
-use Rattle.bts_interp.specs.Jobs as jobs
 use Rattle.bts_interp.specs.Ready.{IsRunnable}
 use Rattle.bts_region.specs.Answers.{Ends, Fits}
 use Rattle.bts_region.specs.Fitting.{IsOfDue, job_of}
-use Rattle.bts_region.specs.Kinds.{is_activation, is_rollback}
+use Rattle.bts_command.specs.Kinds.{is_activation, is_rollback}
 use Rattle.bts_region.specs.Keeps.{state_of}
 use Rattle.bts_region.specs.Regions.{RegionState}
 use Rattle.bts_region.specs.declared.region.Region.TheInside.{Inside}
@@ -51,30 +50,30 @@ invariant_of-self-in-Err g c =
 
 pub fitting-requires-clause-runnable : goal.fitting-requires-clause-runnable
 fitting-requires-clause-runnable g c =
-    subst (λ (repo : Processes). IsRunnable c.in-Some.unit (process_at c.in-Some-key_of.key repo) (texts_of c.self.inside.session.value c.in-Some.unit)) (sym c.reserve_for_one.ensures.processes)
-    (out_runnable g.N.Naming.name c.self.inside c.self.invariant c.in-Some.unit c.in-Some-key_of.key c.in-Some.is (sym c.key_of.ensures ∙ c.in-Some-key_of.is))
+    subst (λ (repo : Processes). IsRunnable c.in-Some.unit (process_at c.in-Some-key.key repo) (texts_of c.self.inside.session.value c.in-Some.unit)) (sym c.reserve_for_one.ensures.processes)
+    (out_runnable g.N.Naming.name c.self.inside c.self.invariant c.in-Some.unit c.in-Some-key.key c.in-Some.is (sym c.key.ensures ∙ c.in-Some-key.is))
 
 pub returns-in-Err-clause-steps : goal.returns-in-Err-clause-steps
 returns-in-Err-clause-steps g c = λ f.
-    let due = due_fits g.N.Naming.name c.self.inside c.self.invariant c.in-Some.unit c.in-Some-key_of.key c.in-Some.is (sym c.key_of.ensures ∙ c.in-Some-key_of.is) c.args.done (sym c.ticket-ticket.ensures ∙ c.if-ticket-ne0.false)
+    let due = due_fits g.N.Naming.name c.self.inside c.self.invariant c.in-Some.unit c.in-Some-key.key c.in-Some.is (sym c.key.ensures ∙ c.in-Some-key.is) c.args.done (sym c.ticket-ticket.ensures ∙ c.if-ticket-ne0.false)
     (subst (λ (z : RegionState). Fits z c.args.done) (sym c.self.view_is) f) in
-    (c.fitting.ensures.taken (subst (λ (repo : Processes). IsOfDue c.args.done.job c.in-Some.unit (process_at c.in-Some-key_of.key repo) c.self.inside.moment) (sym c.reserve_for_one.ensures.processes) due)).1
+    (c.fitting.ensures.taken (subst (λ (repo : Processes). IsOfDue c.args.done.job c.in-Some.unit (process_at c.in-Some-key.key repo) c.self.inside.moment) (sym c.reserve_for_one.ensures.processes) due)).1
 
 pub returns-clause-steps : goal.returns-clause-steps
 returns-clause-steps g c = λ f.
-    let due = due_fits g.N.Naming.name c.self.inside c.self.invariant c.in-Some.unit c.in-Some-key_of.key c.in-Some.is (sym c.key_of.ensures ∙ c.in-Some-key_of.is) c.args.done (sym c.ticket-ticket.ensures ∙ c.if-ticket-ne0.false)
+    let due = due_fits g.N.Naming.name c.self.inside c.self.invariant c.in-Some.unit c.in-Some-key.key c.in-Some.is (sym c.key.ensures ∙ c.in-Some-key.is) c.args.done (sym c.ticket-ticket.ensures ∙ c.if-ticket-ne0.false)
     (subst (λ (z : RegionState). Fits z c.args.done) (sym c.self.view_is) f) in
-    (c.fitting.ensures.taken (subst (λ (repo : Processes). IsOfDue c.args.done.job c.in-Some.unit (process_at c.in-Some-key_of.key repo) c.self.inside.moment) (sym c.reserve_for_one.ensures.processes) due)).1
+    (c.fitting.ensures.taken (subst (λ (repo : Processes). IsOfDue c.args.done.job c.in-Some.unit (process_at c.in-Some-key.key repo) c.self.inside.moment) (sym c.reserve_for_one.ensures.processes) due)).1
 
 pub put_back-requires : goal.put_back-requires
 put_back-requires g c =
-    let result : IsResult c.self.inside c.in-Some.unit c.in-Some-key_of.key c.in-Ok.fitted = record {
+    let result : IsResult c.self.inside c.in-Some.unit c.in-Some-key.key c.in-Ok.fitted = record {
       out = c.in-Some.is;
-      process = sym c.key_of.ensures ∙ c.in-Some-key_of.is;
-      from = c.in-Ok.ensures.ok ∙ ap (λ (repo : Processes). job_of c.in-Ok.fitted.job.ticket c.self.inside.session.value c.in-Some.unit (process_at c.in-Some-key_of.key repo) c.self.inside.moment) c.reserve_for_one.ensures.processes;
+      process = sym c.key.ensures ∙ c.in-Some-key.is;
+      from = c.in-Ok.ensures.ok ∙ ap (λ (repo : Processes). job_of c.in-Ok.fitted.job.ticket c.self.inside.session.value c.in-Some.unit (process_at c.in-Some-key.key repo) c.self.inside.moment) c.reserve_for_one.ensures.processes;
       done = c.facts.ensures;
     } in
-    let key = ap (λ (s : Process). s.key) c.into_result-calls.ensures.after ∙ own_key g.N.Naming.name c.self.inside c.self.invariant c.in-Some.unit c.in-Some-key_of.key c.in-Ok.fitted result in
+    let key = ap (λ (s : Process). s.key) c.into_result-calls.ensures.after ∙ own_key g.N.Naming.name c.self.inside c.self.invariant c.in-Some.unit c.in-Some-key.key c.in-Ok.fitted result in
     subst (λ k. has_room k c.reserve_for_one.new.repository ≡ true) (sym key) (where_ok c.reserve_for_one.result _ (sym c.is_err.ensures.value ∙ c.if-is_err.false) c.reserve_for_one.ensures.room)
 
 -- ---- the unit has ended
@@ -90,11 +89,11 @@ behind_it g c =
       activations = c.self.inside.activations + c.from-2.result;
     }
 
-is_result : (g : Over) (c : goal.After-len g) → IsResult c.self.inside c.in-Some.unit c.in-Some-key_of.key c.in-Ok.fitted
+is_result : (g : Over) (c : goal.After-len g) → IsResult c.self.inside c.in-Some.unit c.in-Some-key.key c.in-Ok.fitted
 is_result g c = record {
   out = c.in-Some.is;
-  process = sym c.key_of.ensures ∙ c.in-Some-key_of.is;
-  from = c.in-Ok.ensures.ok ∙ ap (λ (repo : Processes). job_of c.in-Ok.fitted.job.ticket c.self.inside.session.value c.in-Some.unit (process_at c.in-Some-key_of.key repo) c.self.inside.moment) c.reserve_for_one.ensures.processes;
+  process = sym c.key.ensures ∙ c.in-Some-key.is;
+  from = c.in-Ok.ensures.ok ∙ ap (λ (repo : Processes). job_of c.in-Ok.fitted.job.ticket c.self.inside.session.value c.in-Some.unit (process_at c.in-Some-key.key repo) c.self.inside.moment) c.reserve_for_one.ensures.processes;
   done = c.facts.ensures;
 }
 
@@ -120,10 +119,10 @@ tells g c =
 pub invariant_of-self-2 : goal.invariant_of-self-2
 invariant_of-self-2 g c =
     keeps_on g.N.Naming.name c.self.inside (behind_it g c) c.self.invariant (ended_by c.in-Some.unit c.self.inside.moment c.in-Ok.fitted c.self.inside.units)
-    (ends g.N.Naming.name c.self.inside c.self.invariant c.in-Some.unit c.in-Some-key_of.key c.in-Ok.fitted (is_result g c) (behind_it g c) (tells g c))
+    (ends g.N.Naming.name c.self.inside c.self.invariant c.in-Some.unit c.in-Some-key.key c.in-Ok.fitted (is_result g c) (behind_it g c) (tells g c))
 
 pub returns-clause-ok : goal.returns-clause-ok
 returns-clause-ok g c =
     let place : c.len.result ≡ length c.push_reserved.new.self.items = search rules in
     subst (λ (z : RegionState). Ends z (state_of (behind_it g c)) c.args.done c.len.result) c.self.view_is
-    (told g.N.Naming.name c.self.inside c.self.invariant c.in-Some.unit c.in-Some-key_of.key c.in-Ok.fitted (is_result g c) (behind_it g c) (tells g c) c.args.done c.len.result (sym c.ticket-ticket.ensures ∙ c.if-ticket-ne0.false) place)
+    (told g.N.Naming.name c.self.inside c.self.invariant c.in-Some.unit c.in-Some-key.key c.in-Ok.fitted (is_result g c) (behind_it g c) (tells g c) c.args.done c.len.result (sym c.ticket-ticket.ensures ∙ c.if-ticket-ne0.false) place)

@@ -17,17 +17,12 @@ use Rattle.bts_tree.specs.Processes.{Process, activity_at}
 use Rattle.bts_rows.specs.declared.held.Held.{Held}
 use Rattle.bts_rows.specs.Rows.{answer}
 use Rattle.bts_rows.specs.Targets.{Here, Named, path, none}
-use Rattle.bts_unit.specs.Calls.{answered, call, called_in, commands_of, done_in, opened_by, opens_on, run, says_ran, stepped, with_frame_at}
+use Rattle.bts_unit.specs.Calls.{answered, call, called_in, commands_of, done_in, made, made_first, opened_by, opens_on, run, says_ran, stepped, unit_behind, with_frame_at}
 use Rattle.bts_unit.specs.Ends.{closed, leaving_of, left, returned, returned_at, rolled_back}
 use Rattle.bts_unit.specs.Frames.{OpenFrame, UnitOfWork, here}
+use Rattle.bts_unit.specs.Replays.{Fits, IsFit}
 use Rattle.bts_unit.specs.Standings.{Standing}
-use Rattle.bts_interp.specs.NextCalls.{unit_behind}
-use Rattle.bts_interp.proofs.Behind.{ended_stays, first_call, with_frames}
-
--- a unit with an open frame hasn't ended
-abbrev pub Fits : List OpenFrame → Option End → Type 0
-Fits [] e = Unit {0}
-Fits (f ∷ fs) e = e ≡ None
+use Rattle.bts_unit.proofs.OneByOne.{ended_stays, first_call, with_frames}
 
 pub none_fits : (fs : List OpenFrame) (e : Option End) → e ≡ None → Fits fs e
 none_fits [] e h = tt
@@ -96,18 +91,6 @@ module _ (u : UnitOfWork) (is_open : u.end ≡ None) where
 
 -- ---- calls
 
-abbrev pub IsFit : UnitOfWork → Type 0
-IsFit u = Fits u.frames u.end
-
--- the calls that commands make, as far as the unit hasn't ended
-abbrev pub made_first : List OpenFrame → Call → List Call → List Call
-made_first [] c cs = []
-made_first (f ∷ fs) c cs = c ∷ cs
-
-abbrev pub made : UnitOfWork → List Command → List Call
-made u [] = []
-made u (k ∷ ks) = made_first u.frames (record { command = k; reply = (call u k).0 }) (made (call u k).1 ks)
-
 -- a unit with these open frames
 module _ (moment : ℕ) (base : Process) (held : Held) (now : Standing) (calls : List Call) (end : Option End) where
   abbrev unit : List OpenFrame → UnitOfWork
@@ -159,7 +142,7 @@ base_behind u (k ∷ ks) fit =
 
 -- ---- the calls that a unit made
 
-made_all : (u : UnitOfWork) (ks : List Command) → IsFit u → (run u ks).calls ≡ u.calls ++ made u ks
+pub made_all : (u : UnitOfWork) (ks : List Command) → IsFit u → (run u ks).calls ≡ u.calls ++ made u ks
 unfolding run
 made_all u [] fit = sym (append-nil u.calls)
 made_all u (k ∷ ks) fit =

@@ -1,13 +1,12 @@
--- What kinds of units there are: those that do items, activations, those that hold a process, and those that are committed.
-use Rattle.std.specs.Prelude.{ℕ, Bool, true, false, not, ◌&&◌, List, Option, Some, None}
-use Rattle.std.specs.List.{filter, filter_map}
+-- What kinds of units there are: activations, those that hold a process, and those that are committed.
+use Rattle.std.specs.Prelude.{Bool, true, false, not, ◌&&◌, List, Option, Some, None}
+use Rattle.std.specs.List.{filter}
 use Rattle.bts_names.specs.declared.key.Key.{Key}
 use Rattle.bts_command.specs.declared.ended.End.{End}
 use Rattle.bts_command.specs.declared.ended.End.TheVariants.{Commit, Rollback, Abend}
 use Rattle.bts_command.specs.declared.ended.Ended.{Ended}
 use Rattle.bts_command.specs.declared.ended.UnitKind.{UnitKind}
 use Rattle.bts_command.specs.declared.ended.UnitKind.TheVariants as unit
-use Rattle.bts_interp.specs.Items.{item_of}
 
 abbrev pub is_activation : UnitKind → Bool
 is_activation (unit.Activation key path) = true
@@ -41,7 +40,3 @@ is_committed e = is_kept e.unit && not (is_rollback e.end)
 
 abbrev pub committed : List Ended → List Ended
 committed h = filter is_committed h
-
--- the items that a history names
-abbrev pub items_of : List Ended → List ℕ
-items_of h = filter_map (λ e. item_of e.unit) h

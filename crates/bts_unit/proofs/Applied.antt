@@ -1,0 +1,176 @@
+-- An ended unit that is played again, and the processes behind it.
+use Rattle.std.proofs.Common.{◌≡◌, ◌≢◌, ℕ, ◌+◌, ◌≤◌, ◌^◌, Bool, true, false, cond, List, [], ◌∷◌, length, Some, None, is_some, option_map, inl, inr, refl, sym, ap, ◌∙◌, subst, arith}
+use Rattle.std.specs.List.{AllByRecursion}
+use Rattle.bts_command.specs.Given.{IsGiven}
+use Rattle.bts_command.specs.Kinds.{is_rollback, key_of}
+use Rattle.bts_command.specs.declared.command.Call.{Call}
+use Rattle.bts_command.specs.declared.ended.End.{End}
+use Rattle.bts_command.specs.declared.ended.End.TheVariants.{Commit, Rollback, Abend}
+use Rattle.bts_command.specs.declared.ended.Ended.{Ended}
+use Rattle.bts_command.specs.declared.ended.UnitKind.{UnitKind}
+use Rattle.bts_command.specs.declared.ended.UnitKind.TheVariants as unit
+use Rattle.bts_names.specs.declared.key.Key.{Key}
+use Rattle.bts_names.proofs.Sameness.{keys_exact}
+use Rattle.bts_tree.specs.Processes.{Process}
+use Rattle.bts_tree.specs.Repositories.{Processes, process_at, put, same_key}
+use Rattle.bts_tree.specs.Soundness.{IsSoundInFrames}
+use Rattle.bts_unit.specs.Calls.{commands_of, made, run, unit_behind}
+use Rattle.bts_unit.specs.Frames.{UnitOfWork, path_of, start}
+use Rattle.bts_unit.specs.OneFrame.{is_of_one_frame, may_begin}
+use Rattle.bts_unit.specs.Playing.{IsReplay, after, begun, budgeted, finished, may_run, process_of, put_back, replayed}
+use Rattle.bts_unit.specs.Refusals.{IsOtherCall, IsToldOtherwise, calls_given, is_played}
+use Rattle.bts_unit.specs.Replays.{CanRepeat}
+use Rattle.bts_unit.specs.Soundness.{IsSoundUnit, IsSoundWithin}
+use Rattle.bts_unit.proofs.AtEnd.{frames_gone, stopping, stops}
+use Rattle.bts_unit.proofs.BoundedUnits.{AreAsked, abended_by, any, key_rises, left_by_abend, of_key, within}
+use Rattle.bts_unit.proofs.Opening.{fit_behind_all, made_all}
+use Rattle.bts_unit.proofs.Rising.{Rises}
+
+-- ---- the unit at its start
+
+abbrev pub AreGiven : Ended → Type 0
+AreGiven e = AllByRecursion (λ c. IsGiven c.command × (is_of_one_frame (path_of e.unit) c.command ≡ true)) e.calls
+
+pub can_replay : (e : Ended) (s : Process) (u : UnitOfWork) → u ≡ start e.unit e.moment s → IsSoundUnit u → IsSoundWithin (2 ^ 63) u → length e.calls ≤ 500 → AreGiven e → CanRepeat u e.calls
+can_replay e s u is sound within few given = subst (λ v. CanRepeat v e.calls) (sym is) (record {
+  at = path_of e.unit;
+  stands = refl;
+  fits = refl;
+  sound = subst IsSoundUnit is sound;
+  within = subst (λ n. IsSoundWithin n (start e.unit e.moment s)) (more (2 ^ 63)) (subst (IsSoundWithin (2 ^ 63)) is within);
+  few = let m : length e.calls ≤ 500 = few in omega (arith, m);
+  given = given;
+})
+  where
+    more : (n : ℕ) → n ≡ n + 0
+    more n = omega arith
+
+begun_starts : (kind : UnitKind) (moment : ℕ) (s : Process) → may_begin kind s ≡ true → begun kind moment s ≡ start kind moment s
+begun_starts (unit.Request item key) moment s h = refl
+begun_starts (unit.Activation key path) moment s h = refl
+begun_starts _ moment s h = cc
+
+module _ (e : Ended) (s : Process) (may : may_begin e.unit s ≡ true) (u : UnitOfWork) (is : u ≡ start e.unit e.moment s) where
+  abbrev first : UnitOfWork
+  first = start e.unit e.moment s
+
+  replayed_is : replayed e s ≡ run u (commands_of e.calls)
+  replayed_is = ap (λ v. run v (commands_of e.calls)) (begun_starts e.unit e.moment s may ∙ sym is)
+
+  behind_is : unit_behind u e.calls ≡ replayed e s
+  unfolding unit_behind
+  behind_is = sym replayed_is
+
+  -- the calls that the process gives it are those that it makes
+  made_is : calls_given e (Some s) ≡ made u (commands_of e.calls)
+  made_is =
+      ap (λ v. v.calls) replayed_is
+      ∙ ap (λ v. (run v (commands_of e.calls)).calls) is
+      ∙ made_all first (commands_of e.calls) refl
+      ∙ ap (λ v. made v (commands_of e.calls)) (sym is)
+
+  pub other_call : (n : ℕ) → IsOtherCall (made u (commands_of e.calls)) e.calls n → IsToldOtherwise e (Some s) n
+  other_call n h = inl (subst (λ l. IsOtherCall l e.calls n) (sym made_is) h)
+
+  -- where all of them are made as they are told
+  module _ (same : made u (commands_of e.calls) ≡ e.calls) (v : UnitOfWork) (ends : v ≡ budgeted e.end (unit_behind u e.calls)) where
+    finished_is : finished e s ≡ v
+    finished_is = ap (budgeted e.end) (sym behind_is) ∙ sym ends
+
+    given_so : calls_given e (Some s) ≡ e.calls
+    given_so = made_is ∙ same
+
+    pub replays : v.end ≡ Some e.end → IsReplay e s
+    replays h = record { calls = given_so; end = ap (λ w. w.end) finished_is ∙ h }
+
+    pub leaves : v.now.process ≡ (finished e s).now.process
+    leaves = ap (λ w. w.now.process) (sym finished_is)
+
+    other_end : v.end ≢ Some e.end → IsToldOtherwise e (Some s) 0
+    other_end h = inr (record { calls = given_so; end = λ x. h (ap (λ w. w.end) (sym finished_is) ∙ x); uncounted = refl })
+
+    pub still_open : is_some v.end ≡ false → IsToldOtherwise e (Some s) 0
+    still_open h = other_end (λ x. let n : is_some (Some e.end) ≡ false = ap is_some (sym x) ∙ h in cc)
+
+    pub ended_otherwise : (f : End) → Some f ≡ v.end → f ≢ e.end → IsToldOtherwise e (Some s) 0
+    ended_otherwise f h other = other_end (λ x. other (by f e.end (h ∙ x)))
+      where
+        by : (a b : End) → Some a ≡ Some b → a ≡ b
+        by a b h = ap (λ o. elim o [ Some z ↦ z | None ↦ a ]) h
+
+-- ---- what it leaves
+
+as_asked : (kind : UnitKind) (calls : List Call) → AllByRecursion (λ c. IsGiven c.command × (is_of_one_frame (path_of kind) c.command ≡ true)) calls → AreAsked any kind (commands_of calls)
+as_asked kind [] h = tt
+as_asked kind (c ∷ cs) h = (((h.0.0, tt), h.0.1), as_asked kind cs h.1)
+
+-- what rises with commands is so of the process that an ended unit leaves, and the process is sound
+module _ (Q : ℕ → Process → Type 0) (rises : Rises Q any) (n : ℕ) (e : Ended) (s : Process) (may : may_begin e.unit s ≡ true) (sound : IsSoundInFrames [] s) (given : AreGiven e) (h : Q n s) (r : IsReplay e s) where
+  abbrev last : UnitOfWork
+  last = run (start e.unit e.moment s) (commands_of e.calls)
+
+  last_is : replayed e s ≡ last
+  last_is = ap (λ v. run v (commands_of e.calls)) (begun_starts e.unit e.moment s may)
+
+  end_is : finished e s ≡ abended_by (stopping e.end last.end) last
+  end_is = ap (budgeted e.end) last_is ∙ stops last e.end
+
+  gone : (abended_by (stopping e.end last.end) last).frames ≡ []
+  gone = frames_gone last (stopping e.end last.end) e.end (fit_behind_all (start e.unit e.moment s) (commands_of e.calls) refl) (ap (λ v. v.end) (sym end_is) ∙ r.end)
+
+  pub left_sound : IsSoundInFrames [] (finished e s).now.process × Q (n + length e.calls) (finished e s).now.process
+  left_sound =
+      let x = left_by_abend Q any rises n e.unit e.moment s (commands_of e.calls) may sound h (as_asked e.unit e.calls given) (stopping e.end last.end) gone in
+      let many : length last.calls ≡ length e.calls = ap (λ v. length v.calls) (sym last_is) ∙ ap length r.calls in (
+        subst (λ v. IsSoundInFrames [] v.now.process) (sym end_is) x.0,
+        subst (λ v. Q (n + length e.calls) v.now.process) (sym end_is) (subst (λ m. Q (n + m) (abended_by (stopping e.end last.end) last).now.process) many x.1),
+      )
+
+-- its key is the same
+pub left_key : (e : Ended) (s : Process) → may_begin e.unit s ≡ true → IsSoundInFrames [] s → AreGiven e → IsReplay e s → (finished e s).now.process.key ≡ s.key
+left_key e s may sound given r = (left_sound (of_key s.key) (key_rises s.key) 0 e s may sound given refl r).1
+
+-- ---- the process of a unit
+
+pub key_there : (key : Key) (repo : Processes) → (process_at key repo).key ≡ key
+key_there key [] = refl
+key_there key (s ∷ repo) = by (same_key key s.key) refl (key_there key repo)
+  where
+    by : (b : Bool) → same_key key s.key ≡ b → (process_at key repo).key ≡ key → (cond b s (process_at key repo)).key ≡ key
+    by true e i = sym (keys_exact key s.key e)
+    by false e i = i
+
+process_is : (kind : UnitKind) (key : Key) (repo : Processes) → key_of kind ≡ Some key → process_of kind repo ≡ Some (process_at key repo)
+process_is (unit.Request item k) key repo e = let same : k ≡ key = cc in ap (λ z. Some (process_at z repo)) same
+process_is (unit.Activation k path) key repo e = let same : k ≡ key = cc in ap (λ z. Some (process_at z repo)) same
+process_is (unit.Notice k path) key repo e = let same : k ≡ key = cc in ap (λ z. Some (process_at z repo)) same
+process_is (unit.Expiry k path timer) key repo e = let same : k ≡ key = cc in ap (λ z. Some (process_at z repo)) same
+process_is _ key repo e = cc
+
+-- a unit that is played may begin on its process where the processes let it run
+pub begins_so : (kind : UnitKind) (key : Key) (moment : ℕ) (repo : Processes) → key_of kind ≡ Some key → is_played kind ≡ true → may_run kind moment repo ≡ true → may_begin kind (process_at key repo) ≡ true
+begins_so (unit.Request item k) key moment repo e p h = refl
+begins_so (unit.Activation k path) key moment repo e p h = let same : k ≡ key = cc in subst (λ z. may_begin (unit.Activation k path) (process_at z repo) ≡ true) same h
+begins_so _ key moment repo e p h = cc
+
+put_behind : (e : End) (s : Process) (repo : Processes) → is_rollback e ≡ false → put_back e (Some s) repo ≡ put s repo
+put_behind Commit s repo h = refl
+put_behind Rollback s repo h = cc
+put_behind (Abend code) s repo h = refl
+
+put_nothing : (e : End) (s : Process) (repo : Processes) → is_rollback e ≡ true → put_back e (Some s) repo ≡ repo
+put_nothing Commit s repo h = cc
+put_nothing Rollback s repo h = refl
+put_nothing (Abend code) s repo h = cc
+
+-- ---- the processes behind it
+
+module _ (repo : Processes) (e : Ended) (key : Key) (of : key_of e.unit ≡ Some key) where
+  behind_is_of : after repo e ≡ put_back e.end (Some (finished e (process_at key repo)).now.process) repo
+  behind_is_of = ap (λ o. put_back e.end (option_map (λ s. (finished e s).now.process) o) repo) (process_is e.unit key repo of)
+
+  pub after_put : (s : Process) → s ≡ (finished e (process_at key repo)).now.process → is_rollback e.end ≡ false → put s repo ≡ after repo e
+  after_put s is h = ap (λ x. put x repo) is ∙ sym (put_behind e.end _ repo h) ∙ sym behind_is_of
+
+  pub after_rollback : is_rollback e.end ≡ true → repo ≡ after repo e
+  after_rollback h = sym (behind_is_of ∙ put_nothing e.end _ repo h)

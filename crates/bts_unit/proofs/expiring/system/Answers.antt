@@ -1,0 +1,20 @@
+use Rattle.std.proofs.Common.{◌^◌, ◌-◌, sym, ap, ◌∙◌}
+use Rattle.bts_act.proofs.Late.{activity_none_early}
+use Rattle.bts_act.proofs.Lifts.{edit_writes, number_below}
+use Rattle.bts_tree.specs.Processes.{written}
+use Rattle.bts_unit.specs.Standings.{moved}
+use Rattle.bts_unit.specs.Systems.{system_process, with_expired}
+use Rattle.bts_unit.proofs.expiring.system.Goals as goal
+
+pub expire-requires-clause-below : goal.expire-requires-clause-below
+expire-requires-clause-below c = number_below c.in-Expiry.path c.args.scope.process c.edit.result.now c.edit.ensures.value (2 ^ 64 - 1) c.requires.numbers
+
+pub expire-requires-clause-late : goal.expire-requires-clause-late
+expire-requires-clause-late c = activity_none_early c.in-Expiry.path c.args.scope.process c.edit.result.now c.edit.ensures.value c.requires.late
+
+pub returns-in-Ok-expire-clause-after : goal.returns-in-Ok-expire-clause-after
+unfolding moved
+returns-in-Ok-expire-clause-after c =
+    ap (λ a. written c.in-Expiry.path a c.args.scope.process) c.in-Ok-expire.ensures
+    ∙ sym (edit_writes c.in-Expiry.path c.args.scope.process c.edit.result.now c.edit.ensures.value (with_expired c.in-Expiry.timer))
+    ∙ ap (λ u. system_process u c.args.scope.process) (sym c.in-Expiry.is)
