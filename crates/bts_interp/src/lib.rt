@@ -29,4 +29,8 @@ pub use station::{FinishError, Station, Work};
 pub use steps::Steps;
 
 #[cfg(test)]
+mod activation_tests;
+#[cfg(test)]
+mod condition_tests;
+#[cfg(test)]
 mod tests;

@@ -5,14 +5,10 @@ ghost use Rattle.bts_command.specs.declared.ended.UnitKind.TheVariants as unit;
 ghost use Rattle.bts_interp.specs.Items.{texts_of};
 ghost use Rattle.bts_interp.specs.Ready.{AreExecutable, IsExecutable, MayBeExecuted};
 
-use crate::facts::{bytes_of, is_so};
 use crate::{Job, Naming, Steps, run_job};
-use bts_command::{Call, Command, End, Spot, Target, UnitKind};
+use bts_command::{Command, End, Spot, Target, UnitKind};
 use bts_forms::{Cond, Given, Script, Statement};
-use bts_names::{
-    Abcode, Blob, EventKind, Key, Mode, Moment, Name16, NoMemory, ProcName, ProcType, ProgName,
-    Reason, Reply, Resp, Status, Transid, Value,
-};
+use bts_names::{Abcode, Key, Moment, Name16, ProcName, ProcType, ProgName, Resp, Transid};
 use bts_script::Programs;
 use bts_session::{Item, Items, Session};
 use bts_tree::Scope;
@@ -97,47 +93,48 @@ fn ends(alloc: Global, script: Option<Script>, calls: usize, end: End) -> bool
     made == calls && found == end
 }
 
-/// LABEL(A), so many times RETRIEVE REATTACH, GOTO(A). In a request that command is refused.
-fn circle(alloc: Global, calls: bool) -> Option<Script>
-    ensures { IfSome result (λ s. IsExecutable s) }
+/// What the scripts below are made of.
+#[derive(Clone, Copy, Debug)]
+enum Part {
+    Define,
+    /// RETRIEVE REATTACH, which is refused in a request.
+    Refused,
+    /// PUT of so many bytes: refused where no process is acquired, or where there are more than 32,768.
+    Put(u32),
+    Get,
+    Label,
+    Goto,
+    /// WHEN RESP(NORMAL).
+    When,
+}
+
+fn statement_of(part: Part) -> Option<Statement>
+    ensures { IfSome result (λ s. MayBeExecuted s) }
 {
-    let label = Name16::read(b"A").ok()?;
-    let mut script = Script::new(alloc);
-    script.push(Statement::Label(label)).ok()?;
-    if calls {
-        script
-            .push(Statement::Command(Command::RetrieveReattach))
-            .ok()?;
+    match part {
+        Part::Define => define(),
+        Part::Refused => Some(Statement::Command(Command::RetrieveReattach)),
+        Part::Put(count) => put(count),
+        Part::Get => get(),
+        Part::Label => Some(Statement::Label(Name16::read(b"A").ok()?)),
+        Part::Goto => Some(Statement::Goto(Name16::read(b"A").ok()?)),
+        Part::When => {
+            let cond = Cond::Resp(Resp::Normal);
+            let label = Name16::read(b"A").ok()?;
+            Some(Statement::When { cond, label })
+        }
     }
-    script.push(Statement::Goto(Name16::read(b"A").ok()?)).ok()?;
-    Some(script)
 }
 
-/// So many WHEN that don't hold.
-#[tactic(auto, using(crate::proofs::Executable::one_more_may))]
-fn tests(alloc: Global, count: usize) -> Option<Script>
-    ensures { IfSome result (λ s. IsExecutable s) }
+fn define() -> Option<Statement>
+    ensures { IfSome result (λ s. MayBeExecuted s) }
 {
-    let mut script = Script::new(alloc);
-    while script.len() < count {
-        let label = Name16::read(b"A").ok()?;
-        let cond = Cond::Fired;
-        script.push(Statement::When { cond, label }).ok()?;
-    }
-    Some(script)
+    let transid = Transid::read(b"ORD1").ok()?;
+    let program = ProgName::read(b"ROOT").ok()?;
+    Some(Statement::Command(Command::DefineProcess { transid, program }))
 }
 
-/// Two PUT, of so many bytes each, that are refused since no process is acquired.
-fn puts(alloc: Global, first: u32, second: u32) -> Option<Script>
-    ensures { IfSome result (λ s. IsExecutable s) }
-{
-    let mut script = Script::new(alloc);
-    script.push(a_put(first)?).ok()?;
-    script.push(a_put(second)?).ok()?;
-    Some(script)
-}
-
-fn a_put(count: u32) -> Option<Statement>
+fn put(count: u32) -> Option<Statement>
     ensures { IfSome result (λ s. MayBeExecuted s) }
 {
     Some(Statement::Put {
@@ -147,173 +144,138 @@ fn a_put(count: u32) -> Option<Statement>
     })
 }
 
-/// DEFINE PROCESS, PUT, and a RETRIEVE REATTACH that is passed over where the PUT was done.
-fn defines(alloc: Global) -> Option<Script>
+fn get() -> Option<Statement>
+    ensures { IfSome result (λ s. MayBeExecuted s) }
+{
+    Some(Statement::Command(Command::GetContainer {
+        container: Name16::read(b"C").ok()?,
+        spot: Spot::Of(Target::AcqProcess),
+    }))
+}
+
+/// The script with a part so many times behind it.
+#[tactic(auto, using(crate::proofs::Executable::one_more_may))]
+fn with_part(script: Script, part: Part, count: usize) -> Option<Script>
+    requires { IsExecutable script }
     ensures { IfSome result (λ s. IsExecutable s) }
 {
-    let transid = Transid::read(b"ORD1").ok()?;
-    let program = ProgName::read(b"ROOT").ok()?;
-    let cond = Cond::Resp(Resp::Normal);
-    let label = Name16::read(b"A").ok()?;
-    let mut script = Script::new(alloc);
-    script
-        .push(Statement::Command(Command::DefineProcess { transid, program }))
-        .ok()?;
-    script.push(a_put(3)?).ok()?;
-    script.push(Statement::When { cond, label }).ok()?;
-    script
-        .push(Statement::Command(Command::RetrieveReattach))
-        .ok()?;
-    script
-        .push(Statement::Label(Name16::read(b"A").ok()?))
-        .ok()?;
+    let mut script = script;
+    let most = script.len().saturating_add(count);
+    while script.len() < most {
+        script.push(statement_of(part)?).ok()?;
+    }
     Some(script)
 }
 
+/// The parts one after the other, each so many times.
+fn script_of(alloc: Global, parts: [(Part, usize); 4]) -> Option<Script>
+    ensures { IfSome result (λ s. IsExecutable s) }
+{
+    let script = with_part(Script::new(alloc), parts[0].0, parts[0].1)?;
+    let script = with_part(script, parts[1].0, parts[1].1)?;
+    let script = with_part(script, parts[2].0, parts[2].1)?;
+    with_part(script, parts[3].0, parts[3].1)
+}
+
+/// Whether a request of these parts makes so many calls, and abends with that code, or commits where there is none.
+fn spends(alloc: Global, parts: [(Part, usize); 4], calls: usize, code: &str) -> bool {
+    let end = match Abcode::read(code.as_bytes()) {
+        Ok(code) => End::Abend(code),
+        Err(_) => End::Commit,
+    };
+    ends(alloc, script_of(alloc, parts), calls, end)
+}
+
+const NONE: (Part, usize) = (Part::Label, 0);
+
 #[test]
-fn processes_are_defined(rt: HostRuntime) -> Result<(), Fail> {
+fn conditions_lead_on(rt: HostRuntime) -> Result<(), Fail> {
     let alloc = rt.alloc();
-    assert!(rt; ends(alloc, defines(alloc), 3, End::Commit));
+    let behind = [(Part::When, 1), (Part::Refused, 1), (Part::Label, 1)];
+    for (part, calls) in [(Part::Define, 2), (Part::Refused, 3)] {
+        let parts = [(part, 1), behind[0], behind[1], behind[2]];
+        assert!(rt; spends(alloc, parts, calls, ""), "at {part:?}");
+    }
     Ok(())
 }
 
 #[test]
 fn statements_are_limited(rt: HostRuntime) -> Result<(), Fail> {
     let alloc = rt.alloc();
-    let code = Abcode::read(b"STEP")?;
-    assert!(rt; ends(alloc, circle(alloc, false), 0, End::Abend(code)));
-    assert!(rt; ends(alloc, tests(alloc, 9_999), 1, End::Commit));
-    let code = Abcode::read(b"STEP")?;
-    assert!(rt; ends(alloc, tests(alloc, 10_000), 0, End::Abend(code)));
+    let refused = (Part::Refused, 1);
+    let table = [
+        ([(Part::When, 9_999), NONE, NONE, NONE], 1, ""),
+        ([(Part::When, 10_000), NONE, NONE, NONE], 0, "STEP"),
+        ([(Part::Label, 9), (Part::When, 9_999), NONE, NONE], 1, ""),
+        ([(Part::When, 9_998), refused, NONE, NONE], 2, ""),
+        ([(Part::When, 9_999), refused, NONE, NONE], 1, "STEP"),
+        ([(Part::When, 10_000), refused, NONE, NONE], 0, "STEP"),
+        ([(Part::Label, 1), (Part::Goto, 1), NONE, NONE], 0, "STEP"),
+    ];
+    for (parts, calls, code) in table {
+        assert!(rt; spends(alloc, parts, calls, code), "at {parts:?}");
+    }
     Ok(())
 }
 
+/// The 500th call may be the RETURN behind the last line.
 #[test]
 fn calls_are_limited(rt: HostRuntime) -> Result<(), Fail> {
     let alloc = rt.alloc();
-    let code = Abcode::read(b"CMDS")?;
-    assert!(rt; ends(alloc, circle(alloc, true), 500, End::Abend(code)));
+    let refused = (Part::Refused, 1);
+    let table = [
+        ([(Part::Refused, 499), NONE, NONE, NONE], 500, ""),
+        ([(Part::Refused, 500), NONE, NONE, NONE], 500, "CMDS"),
+        (
+            [(Part::Label, 1), refused, (Part::Goto, 1), NONE],
+            500,
+            "CMDS",
+        ),
+    ];
+    for (parts, calls, code) in table {
+        assert!(rt; spends(alloc, parts, calls, code), "at {parts:?}");
+    }
     Ok(())
 }
 
+/// 256 times 32,768 bytes are all that a unit may put and get.
 #[test]
 fn data_are_limited(rt: HostRuntime) -> Result<(), Fail> {
     let alloc = rt.alloc();
-    let code = Abcode::read(b"SIZE")?;
-    assert!(rt; ends(alloc, puts(alloc, 4_194_304, 4_194_304), 3, End::Commit));
-    assert!(rt;
-        ends(
-            alloc,
-            puts(alloc, 4_194_304, 4_194_305),
-            2,
-            End::Abend(code)
-        )
-    );
-    Ok(())
-}
-
-fn name(word: &str) -> Option<Name16> {
-    Name16::read(word.as_bytes()).ok()
-}
-
-fn blob(alloc: Global, word: &str) -> Option<Blob> {
-    Blob::copy_of(alloc, word.as_bytes()).ok()
-}
-
-/// Whether a condition holds behind one call that showed this.
-fn holds(shown: Value, cond: Cond) -> bool {
-    let reply = Reply {
-        resp: Resp::Normal,
-        reason: Reason::None,
-        value: shown,
-    };
-    let own = [Call {
-        command: Command::RetrieveReattach,
-        reply,
-    }];
-    is_so(&own, &cond)
-}
-
-/// Whether WHEN EVENT of a name holds behind a RETRIEVE that gave another one.
-fn holds_of_event(found: &str, asked: &str) -> bool {
-    let (Some(found), Some(asked)) = (name(found), name(asked)) else {
-        return false;
-    };
-    let kind = EventKind::Input;
-    holds(Value::Event { name: found, kind }, Cond::Event(asked))
-}
-
-/// Whether WHEN GAVE of some bytes holds behind a GET that gave others.
-fn holds_of_bytes(alloc: Global, found: &str, asked: &str) -> bool {
-    let (Some(found), Some(asked)) = (blob(alloc, found), blob(alloc, asked)) else {
-        return false;
-    };
-    holds(Value::Bytes(found), Cond::Gave(asked))
-}
-
-fn holds_of_status(found: Status, asked: Status) -> bool {
-    let shown = Value::Activity {
-        mode: Mode::Complete,
-        status: found,
-        suspended: false,
-        code: None,
-    };
-    holds(shown, Cond::Status(asked))
-}
-
-#[test]
-fn conditions_hold_of_what_was_shown(rt: HostRuntime) -> Result<(), Fail> {
-    let alloc = rt.alloc();
-    assert!(rt; holds_of_event("E", "E"));
-    assert!(rt; !holds_of_event("E", "F"));
-    assert!(rt; holds_of_bytes(alloc, "ab", "ab"));
-    assert!(rt; !holds_of_bytes(alloc, "ab", "b"));
-    assert!(rt; holds_of_status(Status::Abend, Status::Abend));
-    assert!(rt; !holds_of_status(Status::Abend, Status::Normal));
-    assert!(rt; holds(Value::Fired(true), Cond::Fired));
-    assert!(rt; !holds(Value::Fired(false), Cond::Fired));
-    assert!(rt; holds(Value::Nothing, Cond::Resp(Resp::Normal)));
-    assert!(rt; !holds(Value::Nothing, Cond::Resp(Resp::End)));
-    Ok(())
-}
-
-#[test]
-fn conditions_need_something_shown(rt: HostRuntime) -> Result<(), Fail> {
-    let alloc = rt.alloc();
-    assert!(rt; !holds(Value::Nothing, Cond::Event(Name16::read(b"E")?)));
-    assert!(rt; !holds(Value::Nothing, Cond::Status(Status::Normal)));
-    assert!(rt; !holds(Value::Nothing, Cond::Gave(Blob::new(alloc))));
-    assert!(rt; !holds(Value::Nothing, Cond::Fired));
-    assert!(rt; !is_so(&[], &Cond::Resp(Resp::Normal)));
-    Ok(())
-}
-
-/// Whether a FROM gives these bytes behind a GET that gave `ab`.
-fn gives(alloc: Global, given: Given, bytes: &str) -> bool {
-    let Some(last) = blob(alloc, "ab") else {
-        return false;
-    };
-    let reply = Reply {
-        resp: Resp::Normal,
-        reason: Reason::None,
-        value: Value::Bytes(last),
-    };
-    let own = [Call {
-        command: Command::RetrieveReattach,
-        reply,
-    }];
-    match bytes_of(alloc, &own, &given) {
-        Ok(found) => found.as_slice() == bytes.as_bytes(),
-        Err(NoMemory) => false,
+    let half = (Part::Put(4_194_304), 1);
+    let define = (Part::Define, 1);
+    let first = (Part::Put(32_768), 1);
+    let table = [
+        ([half, half, NONE, NONE], 3, ""),
+        ([half, (Part::Put(4_194_305), 1), NONE, NONE], 2, "SIZE"),
+        ([define, first, (Part::Get, 255), NONE], 258, ""),
+        (
+            [define, first, (Part::Get, 255), (Part::Put(1), 1)],
+            258,
+            "SIZE",
+        ),
+        ([define, first, (Part::Get, 256), NONE], 258, "SIZE"),
+    ];
+    for (parts, calls, code) in table {
+        assert!(rt; spends(alloc, parts, calls, code), "at {parts:?}");
     }
+    Ok(())
 }
 
+/// Where more than one limit is met, that of the bytes comes first, then that of the statements.
 #[test]
-fn data_come_from_literals_counts_and_the_last_get(rt: HostRuntime) -> Result<(), Fail> {
+fn limits_have_an_order(rt: HostRuntime) -> Result<(), Fail> {
     let alloc = rt.alloc();
-    let literal = Blob::copy_of(alloc, b"x")?;
-    assert!(rt; gives(alloc, Given::Literal(literal), "x"));
-    assert!(rt; gives(alloc, Given::Fill(3), "***"));
-    assert!(rt; gives(alloc, Given::Last, "ab"));
+    let much = (Part::Put(8_388_609), 1);
+    let calls_made = (Part::Refused, 500);
+    let table = [
+        ([much, (Part::When, 10_000), NONE, NONE], 1, "SIZE"),
+        ([(Part::Refused, 499), much, NONE, NONE], 500, "SIZE"),
+        ([calls_made, (Part::When, 9_500), NONE, NONE], 500, "STEP"),
+        ([calls_made, (Part::When, 9_499), NONE, NONE], 500, "CMDS"),
+    ];
+    for (parts, calls, code) in table {
+        assert!(rt; spends(alloc, parts, calls, code), "at {parts:?}");
+    }
     Ok(())
 }

@@ -1,58 +1,35 @@
 // Regions of a small session.
 ghost use Rattle.std.specs.Prelude.{◌≡◌, ◌<◌, IfSome};
-ghost use Rattle.bts_interp.specs.Ready.{IsExecutable};
 ghost use Rattle.bts_region.specs.Today.{IsOfToday, IsSmall};
 
 use crate::Region;
-use bts_command::Command;
 use bts_interp::{Done, FinishError, Job, Naming, Steps, Work, run_job};
-use bts_names::{Key, ProcName, ProcType, Sequence};
-use bts_script::{Programs, Script, Statement};
-use bts_session::{Item, Items, Session};
+use bts_names::{Moment, Value};
+use bts_session::{Session, read_session};
 use std::alloc::Global;
 use std::marker::Brand;
 use std::sync::ledger::{Blank, Ledger};
 use std::test::Fail;
 
-fn key_named(text: &str) -> Option<Key> {
-    Some(Key {
-        ptype: ProcType::read(b"T".as_slice()).ok()?,
-        pname: ProcName::read(text.as_bytes()).ok()?,
-    })
-}
-
-/// A block that is one ROLLBACK.
-fn rolled_back(alloc: Global) -> Option<Script>
-    ensures { IfSome result (λ script. IsExecutable script) }
-{
-    let mut script: Script = Sequence::new(alloc);
-    script.push(Statement::Command(Command::Rollback)).ok()?;
-    Some(script)
-}
-
 /// A request that rolls back, a SETTLE, and a request with no line.
-fn small_session(alloc: Global) -> Option<Session>
+const SMALL: &str = "REQUEST T P\nROLLBACK\nEND\nSETTLE\nREQUEST T Q\nEND\n";
+
+/// The root of a process is activated by its start, and behind the second request by GO.
+const WOKEN: &str =
+    "PROGRAM R\nRETRIEVE REATTACH EVENT\nDEFINE INPUT EVENT(GO)\nEND\nREQUEST T P\nDEFINE PROCESS TRANSID(X) PROGRAM(R)\nRUN ACQPROCESS ASYNCHRONOUS\nEND\nSETTLE\nREQUEST T P\nACQUIRE PROCESS\nRUN ACQPROCESS ASYNCHRONOUS INPUTEVENT(GO)\nEND\n";
+
+/// The session of a text, with few items.
+fn session_of(alloc: Global, text: &str) -> Option<Session>
     ensures today { IfSome result (λ s. IsOfToday s) }
     ensures small { IfSome result (λ s. IsSmall s 4) }
 {
-    let mut items: Items = Sequence::new(alloc);
-    items
-        .push(Item::Request {
-            key: key_named("P")?,
-            script: rolled_back(alloc)?,
-        })
-        .ok()?;
-    items.push(Item::Settle).ok()?;
-    items
-        .push(Item::Request {
-            key: key_named("Q")?,
-            script: Sequence::new(alloc),
-        })
-        .ok()?;
-    Some(Session {
-        items,
-        programs: Programs::new(alloc),
-    })
+    let Ok(session) = read_session(alloc, text.as_bytes()) else {
+        return None;
+    };
+    if session.items.len() > 4 {
+        return None;
+    }
+    Some(session)
 }
 
 fn take_job<N: Naming>(region: &mut Region<N>) -> Option<Job<N>> {
@@ -86,7 +63,7 @@ fn end_next<N: Naming, L: Ledger>(
     }
 }
 
-/// The unit at a place of the history, from 0: the number of its item, and its own among the committed ones.
+/// The number among the committed units of the one at a place of the history, from 0.
 fn seq_at<N: Naming>(region: &Region<N>, place: usize) -> Option<u64> {
     Some(region.history().get(place)?.seq)
 }
@@ -102,6 +79,10 @@ enum Story {
     GivenBack,
     /// The result of a unit is brought back for another one.
     OfAnother,
+    /// The result of an activation is brought back for a later one of the same activity, whose process is another now.
+    OfAnotherBase,
+    /// The result of a unit is brought back when the moment is a later one.
+    Later,
 }
 
 fn all<N: Naming, L: Ledger>(alloc: Global, region: &mut Region<N>, steps: &mut Steps<L>) -> bool {
@@ -159,6 +140,68 @@ fn of_another<N: Naming, L: Ledger>(
     take_job(region).is_some() && region.finish(done, steps).is_ok() && seq_at(region, 2) == Some(1)
 }
 
+/// Whether the first call of the unit at that place of the history retrieved this event.
+fn was_woken_by<N: Naming>(region: &Region<N>, place: usize, event: &str) -> bool {
+    let Some(ended) = region.history().get(place) else {
+        return false;
+    };
+    let Some(call) = ended.calls.as_slice().first() else {
+        return false;
+    };
+    match &call.reply.value {
+        Value::Event { name, .. } => name.as_bytes() == event.as_bytes(),
+        _ => false,
+    }
+}
+
+fn of_another_base<N: Naming, L: Ledger>(
+    alloc: Global,
+    region: &mut Region<N>,
+    steps: &mut Steps<L>,
+) -> bool {
+    if !end_next(alloc, region, steps) {
+        return false;
+    }
+    let Some(done) = take_and_run(alloc, region, steps) else {
+        return false;
+    };
+    region.take_back_all();
+    for _turn in 0..3 {
+        if !end_next(alloc, region, steps) {
+            return false;
+        }
+    }
+    let Some(job) = take_job(region) else {
+        return false;
+    };
+    let is_same = job.unit() == done.unit() && job.moment() == done.moment();
+    is_same
+        && region.finish(done, steps).is_ok()
+        && was_woken_by(region, 1, "DFHINITIAL")
+        && was_woken_by(region, 4, "GO")
+}
+
+fn later<N: Naming, L: Ledger>(
+    alloc: Global,
+    region: &mut Region<N>,
+    steps: &mut Steps<L>,
+) -> bool {
+    let Some(done) = take_and_run(alloc, region, steps) else {
+        return false;
+    };
+    let Some(now) = Moment::from_seconds(60) else {
+        return false;
+    };
+    region.advance(now);
+    if region.finish(done, steps).is_err() {
+        return false;
+    }
+    match region.history().first() {
+        Some(ended) => ended.moment == now,
+        None => false,
+    }
+}
+
 fn tell<N: Naming, L: Ledger>(alloc: Global, session: Session, blank: Blank, story: Story) -> bool
     requires name { N.name ≡ record { session = session; limit = 4 } }
     requires today { IsOfToday session }
@@ -177,11 +220,13 @@ fn tell<N: Naming, L: Ledger>(alloc: Global, session: Session, blank: Blank, sto
         Story::TakenBack => taken_back(alloc, &mut region, &mut steps),
         Story::GivenBack => given_back(alloc, &mut region, &mut steps),
         Story::OfAnother => of_another(alloc, &mut region, &mut steps),
+        Story::OfAnotherBase => of_another_base(alloc, &mut region, &mut steps),
+        Story::Later => later(alloc, &mut region, &mut steps),
     }
 }
 
-fn holds(alloc: Global, story: Story) -> bool {
-    match small_session(alloc) {
+fn holds(alloc: Global, text: &str, story: Story) -> bool {
+    match session_of(alloc, text) {
         Some(session) => tell::<Brand, Brand>(alloc, session, Blank::new(1), story),
         None => false,
     }
@@ -189,24 +234,36 @@ fn holds(alloc: Global, story: Story) -> bool {
 
 #[test]
 fn units_end_one_after_the_other(rt: HostRuntime) -> Result<(), Fail> {
-    assert!(rt; holds(rt.alloc(), Story::All));
+    assert!(rt; holds(rt.alloc(), SMALL, Story::All));
     Ok(())
 }
 
 #[test]
 fn a_unit_that_was_taken_back_is_not_out(rt: HostRuntime) -> Result<(), Fail> {
-    assert!(rt; holds(rt.alloc(), Story::TakenBack));
+    assert!(rt; holds(rt.alloc(), SMALL, Story::TakenBack));
     Ok(())
 }
 
 #[test]
 fn a_unit_that_was_given_back_comes_again(rt: HostRuntime) -> Result<(), Fail> {
-    assert!(rt; holds(rt.alloc(), Story::GivenBack));
+    assert!(rt; holds(rt.alloc(), SMALL, Story::GivenBack));
     Ok(())
 }
 
 #[test]
 fn a_unit_is_run_again_where_the_result_is_of_another(rt: HostRuntime) -> Result<(), Fail> {
-    assert!(rt; holds(rt.alloc(), Story::OfAnother));
+    assert!(rt; holds(rt.alloc(), SMALL, Story::OfAnother));
+    Ok(())
+}
+
+#[test]
+fn a_unit_is_run_again_where_the_result_is_of_another_base(rt: HostRuntime) -> Result<(), Fail> {
+    assert!(rt; holds(rt.alloc(), WOKEN, Story::OfAnotherBase));
+    Ok(())
+}
+
+#[test]
+fn a_unit_ends_at_the_present_moment(rt: HostRuntime) -> Result<(), Fail> {
+    assert!(rt; holds(rt.alloc(), SMALL, Story::Later));
     Ok(())
 }

@@ -2,6 +2,8 @@
 #![tactic(auto)]
 
 mod cause;
+#[cfg(test)]
+mod jumps;
 mod session;
 #[cfg(test)]
 mod stories;

@@ -1,5 +1,6 @@
 // What no clause says: what is printed of sessions with programs that are written by hand.
-use crate::tests::answers_to;
+use crate::tests::{answers_to, times};
+use std::alloc::Global;
 use std::test::Fail;
 
 /// Two sub-events fire before one retrieval of their composite: both in their order, or one that is sent twice.
@@ -174,6 +175,80 @@ fn activations_are_limited(rt: HostRuntime) -> Result<(), Fail> {
         "{STARTED}2 ACTIVATION T A / 1970-01-01T00:00:00 ABEND NORT\n  RETURN NORMAL ABEND NORT\n3 SETTLE 1970-01-01T00:00:00 COMMIT\n4 REQUEST T B 1970-01-01T00:00:00 COMMIT\n  RETURN NORMAL\nEND 4\n"
     )?;
     assert!(rt; answers_to(alloc, "run F --limit 1", &text, 0, &all)?);
+    let text = format!(in alloc;
+        "PROGRAM P\nEND\n{STARTS}REQUEST T B\nDEFINE PROCESS TRANSID(X) PROGRAM(P)\nRUN ACQPROCESS ASYNCHRONOUS\nEND\n"
+    )?;
+    let one = format!(in alloc;
+        "{STARTED}2 REQUEST T B 1970-01-01T00:00:00 COMMIT\n  DEFINE PROCESS NORMAL\n  RUN ACQPROCESS NORMAL\n  RETURN NORMAL\n3 ACTIVATION T A / 1970-01-01T00:00:00 ABEND NORT\n  RETURN NORMAL ABEND NORT\nlimit 1\n"
+    )?;
+    assert!(rt; answers_to(alloc, "run F --limit 1", &text, 7, &one)?);
+    Ok(())
+}
+
+/// A session may leave out the program that an activity names.
+#[test]
+fn activations_need_their_program(rt: HostRuntime) -> Result<(), Fail> {
+    let alloc = rt.alloc();
+    let told = format!(in alloc;
+        "{STARTED}2 ACTIVATION T A / 1970-01-01T00:00:00 ABEND NOPG\n  ABEND(NOPG) NORMAL\nEND 2\n"
+    )?;
+    assert!(rt; answers_to(alloc, "run F", STARTS, 0, &told)?);
+    let other = format!(in alloc; "PROGRAM Q\nEND\n{STARTS}")?;
+    assert!(rt; answers_to(alloc, "run F", &other, 0, &told)?);
+    Ok(())
+}
+
+/// Whether an activation that retrieves its entry and then does a line so many times, and perhaps another one, ends so,
+/// with a line of calls as often.
+fn spends(
+    alloc: Global,
+    (line, call): (&str, &str),
+    count: usize,
+    (last, calls): (&str, &str),
+    end: &str,
+) -> Result<bool, Fail> {
+    let lines = times(alloc, line, count)?;
+    let made = times(alloc, call, count)?;
+    let text = format!(in alloc;
+        "PROGRAM P\nRETRIEVE REATTACH EVENT\n{lines}{last}LABEL L\nEND\n{STARTS}"
+    )?;
+    let told = format!(in alloc;
+        "{STARTED}2 ACTIVATION T A / 1970-01-01T00:00:00 {end}\n  RETRIEVE REATTACH NORMAL DFHINITIAL SYSTEM\n{made}{calls}END 2\n"
+    )?;
+    answers_to(alloc, "run F", &text, 0, &told)
+}
+
+/// What an activation may use is met exactly with the RETURN behind its last line, or missed by one.
+#[test]
+fn budgets_end_activations(rt: HostRuntime) -> Result<(), Fail> {
+    let alloc = rt.alloc();
+    let test = ("TEST EVENT(E)\n", "  TEST EVENT(E) EVENTERR Missing\n");
+    let when = ("WHEN FIRED GOTO L\n", "");
+    let put = (
+        "PUT CONTAINER(C) FROM(FILL(1048576))\n",
+        "  PUT CONTAINER(C) LENGERR Long\n",
+    );
+    let none = ("", "");
+    let done = ("", "  RETURN NORMAL COMPLETE\n");
+    let one = (
+        "PUT CONTAINER(C) FROM('x')\n",
+        "  PUT CONTAINER(C) NORMAL\n",
+    );
+    let table = [
+        (test, 498, done, "COMMIT"),
+        (test, 499, none, "ABEND CMDS"),
+        (when, 9_998, done, "COMMIT"),
+        (when, 9_999, none, "ABEND STEP"),
+        (put, 8, done, "COMMIT"),
+        (put, 8, one, "ABEND SIZE"),
+    ];
+    for (line, count, last, end) in table {
+        assert!(rt;
+            spends(alloc, line, count, last, end)?,
+            "at {count} {}",
+            line.0
+        );
+    }
     Ok(())
 }
 

@@ -42,7 +42,7 @@ impl Sink for Narrow {
 }
 
 /// The part, so many times.
-fn times(alloc: Global, part: &str, count: usize) -> Result<String, Fail> {
+pub fn times(alloc: Global, part: &str, count: usize) -> Result<String, Fail> {
     let mut text = String::new(alloc);
     for _ in 0..count {
         text.push_str(part)?;

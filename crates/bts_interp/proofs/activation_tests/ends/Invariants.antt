@@ -1,0 +1,7 @@
+use Rattle.bts_interp.proofs.activation_tests.ends.Given as goal
+
+abbrev pub ghosts-run_counted-N-Naming : goal.ghosts-run_counted-N-Naming
+ghosts-run_counted-N-Naming a = record { name = record { session = a.session; limit = 0 } }
+
+abbrev pub ghosts-run_counted-L-Ledger : goal.ghosts-run_counted-L-Ledger
+ghosts-run_counted-L-Ledger a = record { name = a.blank.name; parts = a.blank.parts }
