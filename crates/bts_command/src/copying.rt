@@ -17,27 +17,63 @@ impl Command {
         ensures { IfOk result (λ copy. copy ≡ self.now) }
     {
         Ok(match *self {
-            Command::DefineProcess { transid, program } => Command::DefineProcess { transid, program },
+            Command::DefineProcess { transid, program } => Command::DefineProcess {
+                transid,
+                program,
+            },
             Command::AcquireProcess => Command::AcquireProcess,
             Command::AcquireActivity { path } => Command::AcquireActivity { path },
             Command::PurgeProcess => Command::PurgeProcess,
-            Command::DefineActivity { activity, event, transid, program } => Command::DefineActivity { activity, event, transid, program },
+            Command::DefineActivity {
+                activity,
+                event,
+                transid,
+                program,
+            } => Command::DefineActivity {
+                activity,
+                event,
+                transid,
+                program,
+            },
             Command::DeleteActivity { activity } => Command::DeleteActivity { activity },
-            Command::Run { target, synchronous, input } => Command::Run { target, synchronous, input },
+            Command::Run {
+                target,
+                synchronous,
+                input,
+            } => Command::Run {
+                target,
+                synchronous,
+                input,
+            },
             Command::Link { target, input } => Command::Link { target, input },
             Command::Check { target } => Command::Check { target },
             Command::Cancel { target } => Command::Cancel { target },
             Command::Reset { target } => Command::Reset { target },
             Command::Suspend { target } => Command::Suspend { target },
             Command::Resume { target } => Command::Resume { target },
-            Command::PutContainer { container, spot, ref from } => {
+            Command::PutContainer {
+                container,
+                spot,
+                ref from,
+            } => {
                 let from = Blob::copy_of(alloc, from.as_slice())?;
-                Command::PutContainer { container, spot, from }
+                Command::PutContainer {
+                    container,
+                    spot,
+                    from,
+                }
             }
             Command::GetContainer { container, spot } => Command::GetContainer { container, spot },
-            Command::DeleteContainer { container, spot } => Command::DeleteContainer { container, spot },
+            Command::DeleteContainer { container, spot } => Command::DeleteContainer {
+                container,
+                spot,
+            },
             Command::DefineInput { event } => Command::DefineInput { event },
-            Command::DefineComposite { event, all, ref subs } => {
+            Command::DefineComposite {
+                event,
+                all,
+                ref subs,
+            } => {
                 let subs = copy_of_names(alloc, subs)?;
                 Command::DefineComposite { event, all, subs }
             }
@@ -47,7 +83,11 @@ impl Command {
             Command::TestEvent { event } => Command::TestEvent { event },
             Command::RetrieveReattach => Command::RetrieveReattach,
             Command::RetrieveSubevent { event } => Command::RetrieveSubevent { event },
-            Command::DefineTimer { timer, event, due } => Command::DefineTimer { timer, event, due },
+            Command::DefineTimer { timer, event, due } => Command::DefineTimer {
+                timer,
+                event,
+                due,
+            },
             Command::ForceTimer { timer, target } => Command::ForceTimer { timer, target },
             Command::CheckTimer { timer } => Command::CheckTimer { timer },
             Command::DeleteTimer { timer } => Command::DeleteTimer { timer },
