@@ -1,3 +1,4 @@
+mod Counting
 mod Counts
 mod OneUnit
 mod Fronts

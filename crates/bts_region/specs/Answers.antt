@@ -1,5 +1,5 @@
 -- What the calls of a region answer, and the region behind them.
-use Rattle.std.specs.Prelude.{◌≡◌, ℕ, true, false, nat_eq, max, List, [], ◌∷◌, ◌++◌, length, Option, Some, None, Result, Ok, Err}
+use Rattle.std.specs.Prelude.{◌≡◌, ℕ, ◌+◌, true, false, nat_eq, max, List, [], ◌∷◌, ◌++◌, length, Option, Some, None, Result, Ok, Err}
 use Rattle.std.specs.List.{find}
 use Rattle.std.specs.Option.{option_map}
 use Rattle.bts_names.specs.declared.key.Key.{Key}
@@ -14,6 +14,7 @@ use Rattle.bts_interp.specs.declared.station.FinishError.{FinishError}
 use Rattle.bts_interp.specs.declared.station.FinishError.TheVariants as failure
 use Rattle.bts_interp.specs.declared.station.Work.{Work}
 use Rattle.bts_interp.specs.declared.station.Work.TheVariants as work
+use Rattle.bts_region.specs.Fitting.{job_of}
 use Rattle.bts_region.specs.Histories.{IsNext}
 use Rattle.bts_region.specs.Items.{clock_in, rows_in}
 use Rattle.bts_command.specs.Kinds.{key_of}
@@ -21,6 +22,7 @@ use Rattle.bts_region.specs.Positions.{behind_all, origin}
 use Rattle.bts_region.specs.Regions.{IsNextTicket, Offer, RegionState, all_done, limit_met, offer, position_of, wait}
 use Rattle.bts_region.specs.Regions as regions
 use Rattle.bts_session.specs.declared.session.Session.{Session}
+use Rattle.bts_tree.specs.Processes.{Process}
 use Rattle.bts_tree.specs.Repositories.{process_at}
 
 -- ---- the beginning
@@ -107,3 +109,15 @@ pub record Fits (r : RegionState) (d : jobs.Done) : Type 0 where
   pub unit : unit_out d.job.ticket r.out ≡ Some d.job.unit
   pub base : (key : Key) → key_of d.job.unit ≡ Some key → d.job.base ≡ process_at key (position_of r).processes
   pub moment : d.job.moment ≡ r.moment
+
+-- the statements that a unit executes which ended there, from that process
+abbrev pub executed_from : RegionState → Process → Ended → ℕ
+executed_from r base e = jobs.executed (record { job = job_of 0 r.session e.unit base r.moment; calls = e.calls; after = base; end = e.end })
+
+-- one unit ended, and its statements were counted
+pub record CountsLast (old new : RegionState) (before now : ℕ) : Type 0 where
+  pub key : Key
+  pub ended : Ended
+  pub process : key_of ended.unit ≡ Some key
+  pub history : new.history ≡ old.history ++ ended ∷ []
+  pub counted : now ≡ before + executed_from old (process_at key (position_of old).processes) ended

@@ -1,8 +1,9 @@
 // Units that end.
 ghost use Rattle.std.specs.Prelude.{◌≡◌, ◌≤◌, ◌<◌, ◌+◌, ◌^◌, ◌↔◌, cond, not, vec_len, vec_capacity, IfOk, IfErr, OnOk, Ok, Some, IsTrue, true};
 ghost use Rattle.bts_interp.specs.Items.{texts_of};
+ghost use Rattle.bts_interp.specs.Jobs.{executed};
 ghost use Rattle.bts_interp.specs.Ready.{IsRunnable};
-ghost use Rattle.bts_region.specs.Answers.{Ends, Fits, Refuses};
+ghost use Rattle.bts_region.specs.Answers.{CountsLast, Ends, Fits, Refuses};
 ghost use Rattle.bts_region.specs.Fitting.{IsOfDue, job_of};
 ghost use Rattle.bts_command.specs.Kinds as kinds;
 ghost use Rattle.bts_tree.specs.Repositories.{has_room, process_at};
@@ -11,10 +12,11 @@ ghost use Rattle.bts_unit.specs.Playing as playing;
 use crate::region::Region;
 use crate::taking::new_job;
 use bts_command::{End, Ended, UnitKind};
+use bts_index::IndexedRepository;
 use bts_interp::{Done, FinishError, Naming, Steps, run_job};
 use bts_names::{Key, Moment, NoMemory, Rows};
 use bts_session::Session;
-use bts_tree::{Repository, Scope};
+use bts_tree::Scope;
 use std::alloc::Global;
 use std::sync::Arc;
 use std::sync::ledger::Ledger;
@@ -36,7 +38,7 @@ fn is_same(a: &UnitKind, b: &UnitKind) -> bool
 /// Makes room for one unit more, and for the process that it leaves.
 fn reserve_for_one(
     history: &mut Vec<Ended>,
-    repository: &mut Repository,
+    repository: &mut IndexedRepository,
     key: &Key,
 ) -> Result<(), NoMemory>
     ensures history { history.new.items ≡ history.old.items }
@@ -51,7 +53,7 @@ fn reserve_for_one(
 }
 
 /// Whether a result is that of the unit from the process and at the moment that stand now.
-fn fits<N: Naming>(done: &Done<N>, due: &Due, repository: &Repository) -> bool
+fn fits<N: Naming>(done: &Done<N>, due: &Due, repository: &IndexedRepository) -> bool
     ensures { IsTrue result ↔ IsOfDue done.now.job due.now.unit (process_at due.now.key repository.now.processes) due.now.moment }
 {
     if done.moment() != due.moment {
@@ -64,20 +66,21 @@ fn fits<N: Naming>(done: &Done<N>, due: &Due, repository: &Repository) -> bool
     if base.key() != due.key {
         return false;
     }
-    repository.same(base)
+    repository.all().same(base)
 }
 
 /// Runs the unit from the process and at the moment that stand now.
 fn run_again<N: Naming, L: Ledger>(
     alloc: Global,
     due: &Due,
-    repository: &Repository,
+    repository: &IndexedRepository,
     session: &Arc<Session>,
     steps: &mut Steps<L>,
 ) -> Result<Done<N>, NoMemory>
     requires named { session.now.value ≡ N.name.session }
     requires runnable { IsRunnable due.now.unit (process_at due.now.key repository.now.processes) (texts_of session.now.value due.now.unit) }
     ensures ok { IfOk result (λ d. d.job ≡ job_of d.job.ticket session.now.value due.now.unit (process_at due.now.key repository.now.processes) due.now.moment) }
+    ensures counted { IfOk result (λ d. steps.new ≡ steps.old + executed d) }
     ensures later { steps.old ≤ steps.new }
 {
     let job = new_job(alloc, &due.unit, &due.key, due.moment, repository, session)?;
@@ -92,7 +95,7 @@ fn fitting<N: Naming, L: Ledger>(
     alloc: Global,
     done: Done<N>,
     due: &Due,
-    repository: &Repository,
+    repository: &IndexedRepository,
     session: &Arc<Session>,
     steps: &mut Steps<L>,
 ) -> Result<Done<N>, Done<N>>
@@ -101,6 +104,7 @@ fn fitting<N: Naming, L: Ledger>(
     ensures ok { IfOk result (λ d. d.job ≡ job_of d.job.ticket session.now.value due.now.unit (process_at due.now.key repository.now.processes) due.now.moment) }
     ensures err { IfErr result (λ d. d ≡ done) }
     ensures taken { IsOfDue done.job due.now.unit (process_at due.now.key repository.now.processes) due.now.moment → (result ≡ Ok done) × (steps.new ≡ steps.old) }
+    ensures again { (IsOfDue done.job due.now.unit (process_at due.now.key repository.now.processes) due.now.moment → ⊥) → IfOk result (λ d. steps.new ≡ steps.old + executed d) }
     ensures later { steps.old ≤ steps.new }
 {
     if fits(&done, due, repository) {
@@ -114,13 +118,15 @@ fn fitting<N: Naming, L: Ledger>(
 }
 
 /// Puts the process that a unit leaves into the repository, but for a rollback.
-fn put_back(repository: &mut Repository, after: Scope, end: &End)
+fn put_back(repository: &mut IndexedRepository, after: Scope, end: &End)
     requires { has_room after.process.key repository.old ≡ true }
     ensures { repository.new.processes ≡ playing.put_back end.now (Some after.process) repository.old.processes }
 {
+    let key = after.key();
     if !end.is_rollback() {
         repository.put_scope(after);
     }
+    repository.forget_idle(&key);
 }
 
 /// The number of a unit, which is the last one where it is committed.
@@ -132,7 +138,7 @@ fn number_of(units: u64, is_committed: bool) -> u64
 
 impl<N: Naming> Region<N> {
     /// Ends the ticket's unit, and answers its place in the history, from 1. A result from the process and the moment
-    /// that stand now is taken over, and no statement is executed; else the unit is run again. Where there is no memory,
+    /// that stand now is taken over, and no statement is executed; else the unit is run again, once. Where there is no memory,
     /// or the ticket isn't out, all is as it was and the result comes back.
     pub fn finish<L: Ledger>(
         &mut self,
@@ -142,6 +148,7 @@ impl<N: Naming> Region<N> {
         ensures ok { IfOk result (λ place. Ends self.old self.new done place) }
         ensures err { IfErr result (λ e. (e.1 ≡ done) × (self.new ≡ self.old) × Refuses self.old done e.0) }
         ensures steps { Fits self.old done → steps.new ≡ steps.old }
+        ensures again { (Fits self.old done → ⊥) → IfOk result (λ place. CountsLast self.old self.new steps.old steps.new) }
         ensures later { steps.old ≤ steps.new }
     {
         let ticket = done.ticket();

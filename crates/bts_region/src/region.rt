@@ -10,6 +10,7 @@ ghost use Rattle.bts_region.specs.Regions.{IsKept, kinds_out};
 ghost use Rattle.bts_region.specs.Today.{IsOfToday, IsSmall};
 
 use bts_command::{Ended, History, UnitKind};
+use bts_index::IndexedRepository;
 use bts_interp::{Job, Naming};
 use bts_names::{Moment, NoMemory};
 use bts_session::Session;
@@ -31,7 +32,7 @@ pub struct Region<N: Naming> {
     pub(crate) history: Vec<Ended>,
     /// The unit that is out, under the first ticket.
     pub(crate) out: Option<UnitKind>,
-    pub(crate) repository: Repository,
+    pub(crate) repository: IndexedRepository,
     /// How many units were committed.
     pub(crate) units: u64,
     /// How many items have ended, which are the first ones.
@@ -79,7 +80,7 @@ impl<N: Naming> Region<N> {
             moment: Moment::first(),
             history: Vec::new(alloc),
             out: None,
-            repository: Repository::empty(alloc),
+            repository: IndexedRepository::empty(alloc),
             units: 0,
             items_ended: 0,
             activations: 0,
@@ -105,7 +106,7 @@ impl<N: Naming> Region<N> {
     pub fn repository(&self) -> &Repository
         ensures { result.now.processes ≡ (behind_all self.now.opening self.now.history).processes }
     {
-        &self.repository
+        self.repository.all()
     }
 
     /// How many units are out.
@@ -186,7 +187,7 @@ impl<N: Naming> Region<N> {
         } = self;
         Closed {
             history: History::from_vec(history),
-            repository,
+            repository: repository.into_repository(),
         }
     }
 }

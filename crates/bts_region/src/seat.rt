@@ -1,7 +1,7 @@
 // A region as a station.
 ghost use Rattle.std.specs.Prelude.{◌≡◌, ◌⊎◌, ◌≤◌, ℕ, [], IfOk, IfErr, IfSome, MatchResult, Some, true, false};
 ghost use Rattle.bts_interp.specs.Stations.{Answer, Finishes, PutsNone, Takes, answer_of, has_ticket, is_no_memory, without};
-ghost use Rattle.bts_region.specs.Answers.{Ends, Fits, Refuses, TakesOffer, offer_alone, with_moment, with_out};
+ghost use Rattle.bts_region.specs.Answers.{CountsLast, Ends, Fits, Refuses, TakesOffer, offer_alone, with_moment, with_out};
 ghost use Rattle.bts_region.specs.AsStation.{IsDue, IsRegionWithin, rest_of};
 ghost use Rattle.bts_region.specs.Regions.{IsRegionInOrder};
 
@@ -55,6 +55,7 @@ impl<N: Naming> Station<Job<N>, Done<N>> for Region<N> {
         ensures ok { IfOk result (λ place. Ends self.old self.new done place) }
         ensures err { IfErr result (λ e. (e.1 ≡ done) × (self.new ≡ self.old) × Refuses self.old done e.0) }
         ensures steps { Fits self.old done → steps.new ≡ steps.old }
+        ensures again { (Fits self.old done → ⊥) → IfOk result (λ place. CountsLast self.old self.new steps.old steps.new) }
     {
         self.facts_of_out();
         Region::finish(self, done, steps)

@@ -2,7 +2,7 @@ use Rattle.std.proofs.Common.{◌≡◌, ◌+◌, ◌++◌, ◌∷◌, [], lengt
 use Rattle.std.specs.Int.{from_bool}
 use Rattle.bts_interp.specs.Items.{texts_of}
 use Rattle.bts_interp.specs.Ready.{IsRunnable}
-use Rattle.bts_region.specs.Answers.{Ends, Fits}
+use Rattle.bts_region.specs.Answers.{CountsLast, Ends, Fits}
 use Rattle.bts_region.specs.Fitting.{IsOfDue, job_of}
 use Rattle.bts_command.specs.Kinds.{is_activation, is_rollback}
 use Rattle.bts_region.specs.Keeps.{state_of}
@@ -11,6 +11,7 @@ use Rattle.bts_region.specs.declared.region.Region.TheInside.{Inside}
 use Rattle.bts_tree.specs.Processes.{Process}
 use Rattle.bts_tree.specs.Repositories.{Processes, has_room, process_at}
 use Rattle.bts_unit.specs.Playing.{put_back}
+use Rattle.bts_region.proofs.Counting.{counts_last, fits_due}
 use Rattle.bts_region.proofs.Entering.{keeps_on}
 use Rattle.bts_region.proofs.Finished.{IsResult, Tells, counted_items, counted_units, due_fits, ended_by, ends, numbered_unit, own_key, told, where_ok}
 use Rattle.bts_region.proofs.Runnable.{out_runnable}
@@ -76,6 +77,9 @@ put_back-requires g c =
     let key = ap (λ (s : Process). s.key) c.into_result-calls.ensures.after ∙ own_key g.N.Naming.name c.self.inside c.self.invariant c.in-Some.unit c.in-Some-key.key c.in-Ok.fitted result in
     subst (λ k. has_room k c.reserve_for_one.new.repository ≡ true) (sym key) (where_ok c.reserve_for_one.result _ (sym c.is_err.ensures.value ∙ c.if-is_err.false) c.reserve_for_one.ensures.room)
 
+pub push_reserved-requires : goal.push_reserved-requires
+push_reserved-requires g c = where_ok c.reserve_for_one.result _ (sym c.is_err.ensures.value ∙ c.if-is_err.false) c.reserve_for_one.ensures.place
+
 -- ---- the unit has ended
 
 abbrev behind_it : (g : Over) → goal.After-len g → Inside g.row.N.Denot
@@ -126,3 +130,12 @@ returns-clause-ok g c =
     let place : c.len.result ≡ length c.push_reserved.new.self.items = search rules in
     subst (λ (z : RegionState). Ends z (state_of (behind_it g c)) c.args.done c.len.result) c.self.view_is
     (told g.N.Naming.name c.self.inside c.self.invariant c.in-Some.unit c.in-Some-key.key c.in-Ok.fitted (is_result g c) (behind_it g c) (tells g c) c.args.done c.len.result (sym c.ticket-ticket.ensures ∙ c.if-ticket-ne0.false) place)
+
+pub returns-clause-again : goal.returns-clause-again
+returns-clause-again g c = λ f.
+    let other : IsOfDue c.args.done.job c.in-Some.unit (process_at c.in-Some-key.key c.reserve_for_one.new.repository.processes) c.self.inside.moment → ⊥ = λ due.
+    f (subst (λ (z : RegionState). Fits z c.args.done) c.self.view_is
+    (fits_due g.N.Naming.name c.self.inside c.self.invariant c.in-Some.unit c.in-Some-key.key c.in-Some.is (sym c.key.ensures ∙ c.in-Some-key.is) c.args.done (sym c.ticket-ticket.ensures ∙ c.if-ticket-ne0.false)
+    (subst (λ (repo : Processes). IsOfDue c.args.done.job c.in-Some.unit (process_at c.in-Some-key.key repo) c.self.inside.moment) c.reserve_for_one.ensures.processes due))) in
+    subst (λ (z : RegionState). CountsLast z (state_of (behind_it g c)) c.args.steps.now c.fitting.new.steps) c.self.view_is
+    (counts_last g.N.Naming.name c.self.inside c.self.invariant c.in-Some.unit c.in-Some-key.key c.in-Ok.fitted (is_result g c) (behind_it g c) (tells g c) c.args.steps.now c.fitting.new.steps (c.in-Ok.ensures.again other))

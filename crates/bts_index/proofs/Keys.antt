@@ -1,0 +1,41 @@
+-- Keys that a list has, also behind changes of the list.
+use Rattle.std.proofs.Common.{◌≡◌, Bool, true, false, ◌||◌, List, [], ◌∷◌, refl, ap, ◌∙◌}
+use Rattle.std.specs.BTreeSet.{insert_key}
+use Rattle.std.specs.List.{AllByRecursion}
+use Rattle.std.specs.Ordering.{is_eq, match_ordering}
+use Rattle.std.specs.declared.cmp.Ordering.{Ordering}
+use Rattle.std.specs.declared.cmp.Ordering.TheVariants.{Less, Equal, Greater}
+use Rattle.bts_names.specs.Keys.{key_cmp}
+use Rattle.bts_names.specs.declared.key.Key.{Key}
+use Rattle.bts_tree.specs.Repositories.{same_key}
+use Rattle.bts_index.specs.Indexes.{has_key}
+
+or_false : (b c : Bool) → b ≡ false → (b || c) ≡ c
+or_false true c h = cc
+or_false false c h = refl
+
+pub or_second : (b c : Bool) → c ≡ true → (b || c) ≡ true
+or_second true c h = refl
+or_second false c h = h
+
+-- a list in which a key comes first in order has all keys that it had
+pub has_more : (key new : Key) (keys : List Key) → has_key key keys ≡ true → has_key key (insert_key key_cmp keys new) ≡ true
+has_more key new [] h = cc
+has_more key new (k ∷ keys) h = by (key_cmp new k) (same_key key k) refl h (has_more key new keys)
+  where
+    by : (o : Ordering) (b : Bool) → same_key key k ≡ b → (b || has_key key keys) ≡ true
+        → (has_key key keys ≡ true → has_key key (insert_key key_cmp keys new) ≡ true)
+        → has_key key (match_ordering o (new ∷ k ∷ keys) (k ∷ keys) (k ∷ insert_key key_cmp keys new)) ≡ true
+    by Less b e g i = or_second (same_key key new) _ (ap (λ c. c || has_key key keys) e ∙ g)
+    by Equal b e g i = ap (λ c. c || has_key key keys) e ∙ g
+    by Greater true e g i = ap (λ c. c || has_key key (insert_key key_cmp keys new)) e
+    by Greater false e g i = or_second (same_key key k) _ (i g)
+
+-- a key that stands before all of a list isn't in it
+pub has_none : (key : Key) (keys : List Key) → AllByRecursion (λ k. key_cmp key k ≡ Less) keys → has_key key keys ≡ false
+has_none key [] h = refl
+has_none key (k ∷ keys) h = or_false (same_key key k) (has_key key keys) (ap is_eq h.0) ∙ has_none key keys h.1
+
+-- whether a list has a key that isn't its first one
+pub has_rest : (key k : Key) (keys : List Key) → same_key key k ≡ false → has_key key (k ∷ keys) ≡ has_key key keys
+has_rest key k keys e = or_false (same_key key k) (has_key key keys) e

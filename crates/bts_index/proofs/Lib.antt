@@ -1,0 +1,4 @@
+mod Found
+mod Index
+mod Keys
+mod Merged
