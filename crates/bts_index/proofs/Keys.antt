@@ -1,5 +1,6 @@
 -- Keys that a list has, also behind changes of the list.
 use Rattle.std.proofs.Common.{◌≡◌, Bool, true, false, ◌||◌, List, [], ◌∷◌, refl, ap, ◌∙◌}
+use Rattle.std.proofs.Math.Bool.{or-true}
 use Rattle.std.specs.BTreeSet.{insert_key}
 use Rattle.std.specs.List.{AllByRecursion}
 use Rattle.std.specs.Ordering.{is_eq, match_ordering}
@@ -10,13 +11,8 @@ use Rattle.bts_names.specs.declared.key.Key.{Key}
 use Rattle.bts_tree.specs.Repositories.{same_key}
 use Rattle.bts_index.specs.Indexes.{has_key}
 
-or_false : (b c : Bool) → b ≡ false → (b || c) ≡ c
-or_false true c h = cc
-or_false false c h = refl
-
 pub or_second : (b c : Bool) → c ≡ true → (b || c) ≡ true
-or_second true c h = refl
-or_second false c h = h
+or_second b c h = ap (λ x. b || x) h ∙ or-true b
 
 -- a list in which a key comes first in order has all keys that it had
 pub has_more : (key new : Key) (keys : List Key) → has_key key keys ≡ true → has_key key (insert_key key_cmp keys new) ≡ true
@@ -34,8 +30,8 @@ has_more key new (k ∷ keys) h = by (key_cmp new k) (same_key key k) refl h (ha
 -- a key that stands before all of a list isn't in it
 pub has_none : (key : Key) (keys : List Key) → AllByRecursion (λ k. key_cmp key k ≡ Less) keys → has_key key keys ≡ false
 has_none key [] h = refl
-has_none key (k ∷ keys) h = or_false (same_key key k) (has_key key keys) (ap is_eq h.0) ∙ has_none key keys h.1
+has_none key (k ∷ keys) h = ap (λ o. is_eq o || has_key key keys) h.0 ∙ has_none key keys h.1
 
 -- whether a list has a key that isn't its first one
 pub has_rest : (key k : Key) (keys : List Key) → same_key key k ≡ false → has_key key (k ∷ keys) ≡ has_key key keys
-has_rest key k keys e = or_false (same_key key k) (has_key key keys) e
+has_rest key k keys e = ap (λ b. b || has_key key keys) e

@@ -5,6 +5,7 @@ use Rattle.std.specs.List.Sorted.{IsStrictlySortedBy}
 use Rattle.std.specs.Ordering.{is_eq, ordering_reverse}
 use Rattle.std.specs.declared.cmp.Ordering.{Ordering}
 use Rattle.std.specs.declared.cmp.Ordering.TheVariants.{Less, Equal, Greater}
+use Rattle.std.proofs.lemmas.Cmp.{eq_by_cmp_equiv}
 use Rattle.std.proofs.lemmas.Map.Keys.{sorted_head, sorted_tail}
 use Rattle.bts_names.specs.Keys.{key_cmp}
 use Rattle.bts_names.specs.declared.key.Key.{Key}
@@ -23,12 +24,7 @@ before_all a s [] l h = tt
 before_all a s (k ∷ keys) l h = (key_total.trans a s k l h.0, before_all a s keys l h.1)
 
 pub itself_same : (k : Key) → same_key k k ≡ true
-itself_same k = by (key_cmp k k) (key_total.antisymm k k)
-  where
-    by : (o : Ordering) → o ≡ ordering_reverse o → is_eq o ≡ true
-    by Less e = cc
-    by Equal e = refl
-    by Greater e = cc
+itself_same k = (eq_by_cmp_equiv key_total).refl k
 
 module _ {X : Type 0} (f : Key → List X) where
   abbrev gives : Key → Bool
