@@ -1,6 +1,7 @@
 -- Keys of processes that may have an activation to run.
-use Rattle.std.specs.Prelude.{◌≡◌, Bool, true, not, List}
+use Rattle.std.specs.Prelude.{◌≡◌, Bool, true, not, cond, List}
 use Rattle.std.specs.List.{list_any}
+use Rattle.std.specs.Set.{remove_key}
 use Rattle.bts_names.specs.declared.key.Key.{Key}
 use Rattle.bts_tree.specs.Activities.{is_ready}
 use Rattle.bts_tree.specs.Processes.{activities}
@@ -25,3 +26,7 @@ seen keys stored = record { processes = stored.processes; room = keys }
 pub record IsIndex (keys : List Key) (stored : Stored) : Type 0 where
   pub awake : (key : Key) → is_awake key stored.processes ≡ true → has_key key keys ≡ true
   pub room : (key : Key) → has_key key keys ≡ true → has_room key stored ≡ true
+
+-- the same without the room for a key whose process has no activation to run
+abbrev pub forgotten : Key → Stored → Stored
+forgotten key r = record r { room = cond (is_awake key r.processes) r.room (remove_key (same_key key) r.room) }

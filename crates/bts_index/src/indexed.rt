@@ -1,5 +1,6 @@
 // A repository with an index of what may run.
 ghost use Rattle.std.specs.Prelude.{◌≡◌, [], OnOk, OnErr, true};
+ghost use Rattle.bts_index.specs.Indexes.{forgotten};
 ghost use Rattle.bts_tree.specs.Repositories as repo;
 ghost use Rattle.bts_tree.specs.Soundness.{AreSound};
 
@@ -91,10 +92,10 @@ impl IndexedRepository {
         self.all.put_scope(scope);
     }
 
-    /// Gives up the room for a key whose process has no activation to run. The processes stay as they are. The time is
-    /// that of a walk over the activities of that process.
+    /// Gives up the room for a key, if its process has no activation to run. The processes stay as they are. The time is
+    /// that of a walk over the activities of that process, and of a look-up.
     pub fn forget_idle(&mut self, key: &Key)
-        ensures { self.new.processes ≡ self.old.processes }
+        ensures { self.new ≡ forgotten key.now self.old }
     {
         if first_of(&self.all, key).is_none() {
             self.awake.remove(key);

@@ -2,7 +2,7 @@
 use Rattle.std.proofs.Common.{◌≡◌, ◌≤◌, ◌*◌, ℕ, ◌+◌, Bool, true, false, not, cond, nat_eq, List, [], ◌∷◌, length, Option, None, Some, refl, sym, ap, ◌∙◌, subst, arith}
 use Rattle.std.specs.List.{enumerate_from, find, list_all}
 use Rattle.std.specs.Option.{option_map}
-use Rattle.std.proofs.lemmas.Bool.{and_from, and_parts, eqb-true}
+use Rattle.std.proofs.lemmas.Bool.{eqb-true}
 use Rattle.bts_command.specs.declared.command.Call.{Call}
 use Rattle.bts_command.specs.declared.ended.End.{End}
 use Rattle.bts_command.specs.declared.ended.End.TheVariants.{Commit, Rollback, Abend}
@@ -30,6 +30,7 @@ use Rattle.bts_session.specs.declared.session.Session.{Session}
 use Rattle.bts_tree.specs.Processes.{Process}
 use Rattle.bts_tree.specs.Repositories.{Processes, process_at, put}
 use Rattle.bts_tree.specs.Soundness.{AreSound, IsSoundInFrames}
+use Rattle.bts_unit.proofs.Applied.{within_all}
 use Rattle.bts_unit.specs.Frames.{OpenFrame, UnitOfWork}
 use Rattle.bts_unit.specs.Ends.{abended_whole}
 use Rattle.bts_unit.specs.Playing.{after, budgeted, budgeted_by, is_budget, put_back, replayed}
@@ -178,11 +179,6 @@ few_out session count (unit.Settle n) o l = absurd o
 few_out session count (unit.Browse n) o l = absurd o
 
 -- ---- the processes
-
-within_all : (n m : ℕ) → n ≤ m → (repo : Processes) → list_all (is_within n) repo ≡ true → list_all (is_within m) repo ≡ true
-within_all n m l [] h = refl
-within_all n m l (s ∷ repo) h =
-    let a = and_parts (is_within n s) (list_all (is_within n) repo) h in and_from _ _ (within_more n m s a.0 l) (within_all n m l repo a.1)
 
 module _ (s : Process) (repo : Processes) where
   pub sound_behind : (e : End) → AreSound repo → IsSoundInFrames [] s → AreSound (put_back e (Some s) repo)

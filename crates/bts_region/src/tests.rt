@@ -215,14 +215,23 @@ fn tell<N: Naming, L: Ledger>(alloc: Global, session: Session, blank: Blank, sto
     let Ok(mut region) = Region::<N>::begin(alloc, session, 4) else {
         return false;
     };
-    match story {
+    let is_so = match story {
         Story::All => all(alloc, &mut region, &mut steps),
         Story::TakenBack => taken_back(alloc, &mut region, &mut steps),
         Story::GivenBack => given_back(alloc, &mut region, &mut steps),
         Story::OfAnother => of_another(alloc, &mut region, &mut steps),
         Story::OfAnotherBase => of_another_base(alloc, &mut region, &mut steps),
         Story::Later => later(alloc, &mut region, &mut steps),
-    }
+    };
+    is_so && leaves_all(region)
+}
+
+/// Whether what leaves the region is what it had.
+fn leaves_all<N: Naming>(region: Region<N>) -> bool {
+    let count = region.history().len();
+    let first = region.repository().next_key(None);
+    let left = region.close();
+    left.history.len() == count && left.repository.next_key(None) == first
 }
 
 fn holds(alloc: Global, text: &str, story: Story) -> bool {
@@ -233,37 +242,17 @@ fn holds(alloc: Global, text: &str, story: Story) -> bool {
 }
 
 #[test]
-fn units_end_one_after_the_other(rt: HostRuntime) -> Result<(), Fail> {
-    assert!(rt; holds(rt.alloc(), SMALL, Story::All));
-    Ok(())
-}
-
-#[test]
-fn a_unit_that_was_taken_back_is_not_out(rt: HostRuntime) -> Result<(), Fail> {
-    assert!(rt; holds(rt.alloc(), SMALL, Story::TakenBack));
-    Ok(())
-}
-
-#[test]
-fn a_unit_that_was_given_back_comes_again(rt: HostRuntime) -> Result<(), Fail> {
-    assert!(rt; holds(rt.alloc(), SMALL, Story::GivenBack));
-    Ok(())
-}
-
-#[test]
-fn a_unit_is_run_again_where_the_result_is_of_another(rt: HostRuntime) -> Result<(), Fail> {
-    assert!(rt; holds(rt.alloc(), SMALL, Story::OfAnother));
-    Ok(())
-}
-
-#[test]
-fn a_unit_is_run_again_where_the_result_is_of_another_base(rt: HostRuntime) -> Result<(), Fail> {
-    assert!(rt; holds(rt.alloc(), WOKEN, Story::OfAnotherBase));
-    Ok(())
-}
-
-#[test]
-fn a_unit_ends_at_the_present_moment(rt: HostRuntime) -> Result<(), Fail> {
-    assert!(rt; holds(rt.alloc(), SMALL, Story::Later));
+fn units_end_as_their_stories_say(rt: HostRuntime) -> Result<(), Fail> {
+    let table = [
+        (SMALL, Story::All),
+        (SMALL, Story::TakenBack),
+        (SMALL, Story::GivenBack),
+        (SMALL, Story::OfAnother),
+        (WOKEN, Story::OfAnotherBase),
+        (SMALL, Story::Later),
+    ];
+    for (text, story) in table {
+        assert!(rt; holds(rt.alloc(), text, story), "{story:?}");
+    }
     Ok(())
 }

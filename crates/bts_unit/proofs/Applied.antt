@@ -1,6 +1,7 @@
 -- An ended unit that is played again, and the processes behind it.
 use Rattle.std.proofs.Common.{◌≡◌, ◌≢◌, ℕ, ◌+◌, ◌≤◌, ◌^◌, Bool, true, false, cond, List, [], ◌∷◌, length, Some, None, is_some, option_map, inl, inr, refl, sym, ap, ◌∙◌, subst, arith}
-use Rattle.std.specs.List.{AllByRecursion}
+use Rattle.std.specs.List.{AllByRecursion, list_all}
+use Rattle.std.proofs.lemmas.Bool.{and_from, and_parts}
 use Rattle.bts_command.specs.Given.{IsGiven}
 use Rattle.bts_command.specs.Kinds.{is_rollback, key_of}
 use Rattle.bts_command.specs.declared.command.Call.{Call}
@@ -11,6 +12,9 @@ use Rattle.bts_command.specs.declared.ended.UnitKind.{UnitKind}
 use Rattle.bts_command.specs.declared.ended.UnitKind.TheVariants as unit
 use Rattle.bts_names.specs.declared.key.Key.{Key}
 use Rattle.bts_names.proofs.Sameness.{keys_exact}
+use Rattle.bts_rows.specs.Bounds.{is_within}
+use Rattle.bts_rows.proofs.Bounds.{within_more}
+use Rattle.bts_rows.proofs.Repositories.{put_all}
 use Rattle.bts_tree.specs.Processes.{Process}
 use Rattle.bts_tree.specs.Repositories.{Processes, process_at, put, same_key}
 use Rattle.bts_tree.specs.Soundness.{IsSoundInFrames}
@@ -162,6 +166,17 @@ put_nothing : (e : End) (s : Process) (repo : Processes) → is_rollback e ≡ t
 put_nothing Commit s repo h = cc
 put_nothing Rollback s repo h = refl
 put_nothing (Abend code) s repo h = cc
+
+-- ---- a bound of the numbers of all processes
+
+pub within_all : (n m : ℕ) → n ≤ m → (repo : Processes) → list_all (is_within n) repo ≡ true → list_all (is_within m) repo ≡ true
+within_all n m l [] h = refl
+within_all n m l (s ∷ repo) h =
+    let a = and_parts (is_within n s) (list_all (is_within n) repo) h in and_from _ _ (within_more n m s a.0 l) (within_all n m l repo a.1)
+
+-- with a process whose numbers rose by so many
+pub within_put : (n more : ℕ) (s : Process) (repo : Processes) → list_all (is_within n) repo ≡ true → is_within (n + more) s ≡ true → list_all (is_within (n + more)) (put s repo) ≡ true
+within_put n more s repo h own = put_all (is_within (n + more)) s repo (within_all n (n + more) (omega arith) repo h) own
 
 -- ---- the processes behind it
 

@@ -62,6 +62,7 @@ fn replay(alloc: Global, scope: Scope, ended: &Ended) -> Result<Scope, ApplyErro
     ensures after { IfOk result (λ s. s.process ≡ (playing.finished ended.now scope.process).now.process) }
     ensures key { IfOk result (λ s. s.process.key ≡ scope.process.key) }
     ensures sound { IfOk result (λ s. IsSoundInFrames [] s.process) }
+    ensures within { (n : ℕ) → is_within n scope.process ≡ true → IfOk result (λ s. is_within (n + length ended.now.calls) s.process ≡ true) }
     ensures cause { IfErr result (refusals.IsOtherwise ended.now (Some scope.process)) }
 {
     let Ok(mut unit) = Unit::start(alloc, scope, ended.unit, ended.moment) else {
@@ -116,6 +117,7 @@ fn apply_to(
     ensures played { OnOk result (playing.IsReplay ended.now (process_at key.now repository.old.processes)) }
     ensures after { OnOk result (repository.new.processes ≡ playing.after repository.old.processes ended.now) }
     ensures sound { OnOk result (AreSound repository.new.processes) }
+    ensures within { (n : ℕ) → list_all (is_within n) repository.old.processes ≡ true → OnOk result (list_all (is_within (n + length ended.now.calls)) repository.new.processes ≡ true) }
     ensures cause { IfErr result (refusals.IsOtherwise ended.now (Some (process_at key.now repository.old.processes))) }
     ensures back { OnErr result (repository.new ≡ repository.old) }
 {
@@ -138,7 +140,8 @@ fn apply_to(
 /// not looked at. A request or an activation is played from its first call to its end, so the time grows with the size of
 /// its process and with what its calls do. The caller owes that the processes are sound, with generations and last entry
 /// numbers of at most 2^63; that the unit is no notice and no expiry; and that it has at most 500 calls, each a command
-/// that a line of a session gives and that opens no frame.
+/// that a line of a session gives and that opens no frame. The processes stay sound, and their numbers rise by one a call
+/// at most: so a list of units can be played again one after the other.
 pub fn apply(alloc: Global, repository: &mut Repository, ended: &Ended) -> Result<(), ApplyError>
     requires sound { AreSound repository.old.processes }
     requires within { IsTrue (list_all (is_within (2 ^ 63)) repository.old.processes) }
@@ -148,6 +151,7 @@ pub fn apply(alloc: Global, repository: &mut Repository, ended: &Ended) -> Resul
     ensures played { OnOk result (playing.Plays repository.old.processes ended.now) }
     ensures after { OnOk result (repository.new.processes ≡ playing.after repository.old.processes ended.now) }
     ensures sound { OnOk result (AreSound repository.new.processes) }
+    ensures within { (n : ℕ) → list_all (is_within n) repository.old.processes ≡ true → OnOk result (list_all (is_within (n + length ended.now.calls)) repository.new.processes ≡ true) }
     ensures cause { IfErr result (refusals.IsCause repository.old.processes ended.now) }
     ensures back { OnErr result (repository.new ≡ repository.old) }
 {

@@ -1,11 +1,12 @@
-use Rattle.std.proofs.Common.{◌≡◌, ◌^◌, true, [], sym, ap, ◌∙◌, subst}
+use Rattle.std.proofs.Common.{◌≡◌, ◌+◌, ◌^◌, length, true, [], arith, sym, ap, ◌∙◌, subst}
+use Rattle.std.specs.List.{list_all}
 use Rattle.bts_rows.specs.Bounds.{is_within}
 use Rattle.bts_rows.proofs.Repositories.{put_sound, sound_at, within_at}
 use Rattle.bts_tree.specs.Repositories.{has_room, put}
 use Rattle.bts_tree.specs.Soundness.{AreSound, IsSoundInFrames}
 use Rattle.bts_unit.specs.OneFrame.{may_begin}
 use Rattle.bts_unit.specs.Playing.{finished}
-use Rattle.bts_unit.proofs.Applied.{after_put, after_rollback, begins_so, key_there}
+use Rattle.bts_unit.proofs.Applied.{after_put, after_rollback, begins_so, key_there, within_all, within_put}
 use Rattle.bts_unit.proofs.applying.apply_to.Goals as goal
 
 pub replay-requires-clause-begins : goal.replay-requires-clause-begins
@@ -39,3 +40,12 @@ returns-clause-after c =
 
 pub returns-then-is_rollback-clause-after : goal.returns-then-is_rollback-clause-after
 returns-then-is_rollback-clause-after c = after_rollback c.args.repository.now.processes c.args.ended.now c.args.key.now c.requires.process (sym c.if-is_rollback.ensures)
+
+pub returns-clause-within : goal.returns-clause-within
+returns-clause-within c = λ n h.
+    let k = length c.args.ended.now.calls in
+    let own = c.in_ok-after.ensures.within n (subst (λ x. is_within n x.process ≡ true) (sym c.in-Ok.ensures) (within_at n c.args.key.now c.args.repository.now.processes h)) in
+    subst (λ repo. list_all (is_within (n + k)) repo ≡ true) (sym (stand_then c)) (within_put n k c.in_ok-after.after.process c.args.repository.now.processes h own)
+
+pub returns-then-is_rollback-clause-within : goal.returns-then-is_rollback-clause-within
+returns-then-is_rollback-clause-within c = λ n h. within_all n (n + length c.args.ended.now.calls) (omega arith) c.args.repository.now.processes h

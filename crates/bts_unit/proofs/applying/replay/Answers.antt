@@ -1,4 +1,4 @@
-use Rattle.std.proofs.Common.{◌≡◌, ◌^◌, ℕ, List, [], Option, Some, None, MatchOption, refl, sym, ap, ◌∙◌, subst}
+use Rattle.std.proofs.Common.{◌≡◌, ◌+◌, ◌^◌, ℕ, length, List, [], Option, Some, None, MatchOption, refl, sym, ap, ◌∙◌, subst}
 use Rattle.bts_command.specs.declared.command.Call.{Call}
 use Rattle.bts_command.specs.declared.ended.Ended.{Ended}
 use Rattle.bts_tree.specs.Soundness.{IsSoundInFrames}
@@ -8,7 +8,7 @@ use Rattle.bts_unit.specs.Playing.{budgeted}
 use Rattle.bts_unit.specs.Refusals.{IsOtherCall}
 use Rattle.bts_unit.specs.Replays.{CanRepeat}
 use Rattle.bts_unit.proofs.Applied.{can_replay, ended_otherwise, leaves, left_key, left_sound, other_call, replays, still_open}
-use Rattle.bts_unit.proofs.BoundedUnits.{key_rises, of_key}
+use Rattle.bts_unit.proofs.BoundedUnits.{key_rises, of_key, within, within_rises}
 use Rattle.bts_unit.proofs.applying.replay.Goals as goal
 
 pub first_other-requires : goal.first_other-requires
@@ -82,3 +82,8 @@ pub returns-clause-sound : goal.returns-clause-sound
 returns-clause-sound c =
     subst (IsSoundInFrames []) (sym (returns-clause-after c))
     (left_sound (of_key c.args.scope.process.key) (key_rises c.args.scope.process.key) 0 c.args.ended.now c.args.scope.process c.requires.begins c.requires.sound c.requires.given refl (returns-clause-played c)).0
+
+pub returns-clause-within : goal.returns-clause-within
+returns-clause-within c = λ n h.
+    subst (within (n + length c.args.ended.now.calls)) (sym (returns-clause-after c))
+    (left_sound within within_rises n c.args.ended.now c.args.scope.process c.requires.begins c.requires.sound c.requires.given h (returns-clause-played c)).1
