@@ -1,5 +1,5 @@
 -- Why a session that was done goes no further.
-use Rattle.std.proofs.Common.{◌≡◌, ◌≤◌, ℕ, ◌&&◌, true, false, nat_eq, [], Option, Some, None, IfSome, IsTrue, eq-eqb, refl, sym, ap, ◌∙◌, subst, arith}
+use Rattle.std.proofs.Common.{◌≡◌, ℕ, [], Some, IfSome, IsTrue, eq-eqb, refl, sym, ap, ◌∙◌, subst, arith}
 use Rattle.std.specs.List.{slice_get}
 use Rattle.bts_command.specs.declared.ended.UnitKind.TheVariants as unit
 use Rattle.bts_driver.specs.Turns.{stop_answer}
@@ -8,7 +8,7 @@ use Rattle.bts_driver.specs.declared.driver.Stop.TheVariants as stop
 use Rattle.bts_region.specs.Answers.{begun, offer_alone}
 use Rattle.bts_region.specs.AsStation.{IsDue}
 use Rattle.bts_region.specs.Enabled.{least, works}
-use Rattle.bts_region.specs.Positions.{Position, behind_all, origin}
+use Rattle.bts_region.specs.Positions.{behind_all, origin}
 use Rattle.bts_region.specs.Regions.{IsRegionInOrder, RegionState, all_done, limit_met, offer, position_of}
 use Rattle.bts_region.specs.Serial.{IsInOrder, activations_in, is_over}
 use Rattle.bts_region.proofs.EachOnce.{each_once}

@@ -1,4 +1,6 @@
 // The standard streams as a source and a sink.
+ghost use Rattle.std.specs.Prelude.{◌≡◌};
+
 use bts_io::{Sink, SinkFail, Source, SourceFail};
 use std::io::{Read, Write};
 
@@ -10,7 +12,10 @@ pub struct ReaderSource<R: Read> {
 }
 
 impl<R: Read> ReaderSource<R> {
-    pub fn new(reader: R) -> Self {
+    pub fn new(reader: R) -> Self
+        ensures reader { result.reader ≡ reader }
+        ensures faults { result.faults ≡ 0 }
+    {
         ReaderSource { reader, faults: 0 }
     }
 }
@@ -39,7 +44,10 @@ pub struct WriterSink<W: Write> {
 }
 
 impl<W: Write> WriterSink<W> {
-    pub fn new(writer: W) -> Self {
+    pub fn new(writer: W) -> Self
+        ensures writer { result.writer ≡ writer }
+        ensures faults { result.faults ≡ 0 }
+    {
         WriterSink { writer, faults: 0 }
     }
 }

@@ -1,4 +1,4 @@
-use Rattle.std.proofs.Common.{◌≡◌, ℕ, sym, ap, subst, ◌∙◌}
+use Rattle.std.proofs.Common.{ℕ, sym, subst}
 use Rattle.bts_region.proofs.OfToday.{of_today}
 use Rattle.bts_region.specs.Regions.{IsRegionInOrder, RegionState}
 use Rattle.bts_session.specs.declared.session.Session.{Session}

@@ -1,5 +1,4 @@
-use Rattle.std.proofs.Common.{rules, ◌≡◌, ◌<◌, ◌^◌, ◌≤◌, length, Ok, arith}
-use Rattle.bts_region.specs.Today.{IsSmall}
+use Rattle.std.proofs.Common.{rules, ◌≡◌, ◌<◌, ◌^◌, length, Ok, arith}
 use Rattle.bts_session.specs.Sessions.{session_of}
 use Rattle.bts_tool.proofs.Counted.{items_fit}
 use Rattle.bts_tool.proofs.top_call.do_text.Goals as goal
