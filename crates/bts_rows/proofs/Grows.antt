@@ -13,8 +13,8 @@ use Rattle.bts_tree.specs.Modes.{Cause}
 use Rattle.bts_tree.specs.Paths.{leads_to}
 use Rattle.bts_tree.specs.Processes.{Process, activities, activity_at, complete, edited, planted, purged}
 use Rattle.bts_tree.specs.Scopes.{is_empty}
-use Rattle.bts_tree.specs.Soundness.{is_root}
-use Rattle.bts_rows.specs.Bounds.{is_bare_root, is_lone, is_within}
+use Rattle.bts_tree.specs.Soundness.{is_root, is_within}
+use Rattle.bts_rows.specs.Bounds.{is_bare_root, is_lone}
 use Rattle.bts_rows.proofs.Edits.{changed_at-cons}
 use Rattle.bts_rows.proofs.Entries.{both_so}
 
@@ -23,10 +23,16 @@ pub record GrowsIn (most : ℕ) (more : Bool) (a b : Activity) : Type 0 where
   pub last : b.pool.last ≤ a.pool.last + most
   pub timers : more ≡ false → is_empty a.timers ≡ true → is_empty b.timers ≡ true
 
--- a process keeps its key, its numbers rise by no more than this, and a process that has only its root has more only where more is made
-pub record Grows (most : ℕ) (more : Bool) (s t : Process) : Type 0 where
+-- no activity's last entry number is above n
+abbrev pub numbers_within : ℕ → Process → Bool
+numbers_within n s = list_all (λ x. nat_le x.1.pool.last n) (activities s)
+
+-- a process keeps its key, its generation rises by no more than `once` and its numbers by no more than `most`, and a
+-- process that has only its root has more only where more is made
+pub record Grows (once most : ℕ) (more : Bool) (s t : Process) : Type 0 where
   pub key : t.key ≡ s.key
-  pub numbers : (n m : ℕ) → n + most ≤ m → is_within n s ≡ true → is_within m t ≡ true
+  pub generation : t.generation ≤ s.generation + once
+  pub numbers : (n m : ℕ) → n + most ≤ m → numbers_within n s ≡ true → numbers_within m t ≡ true
   pub lone : more ≡ false → is_lone s ≡ true → is_lone t ≡ true
 
 -- ---- tests of all activities
@@ -87,22 +93,17 @@ module _ (most : ℕ) (more : Bool) where
 
   -- ---- a process
 
-  generation_more : (s : Process) (n m : ℕ) → n + most ≤ m → nat_le s.generation n ≡ true → nat_le s.generation m ≡ true
-  generation_more s n m l e = at_most n most s.generation s.generation (omega arith) e m l
-
-  pub grows_same : (s : Process) → Grows most more s s
+  pub grows_same : (s : Process) → Grows 0 most more s s
   grows_same s = record {
     key = refl;
-    numbers = λ n m l h.
-        let a = and_parts (nat_le s.generation n) _ h in
-        both_so _ _ (generation_more s n m l a.0)
-        (all_wider (last_within n) (last_within m) (λ x e. last_more x.1 x.1 (grows_in_same x.1 x.1 refl refl) n m l e) (activities s) a.1);
+    generation = omega arith;
+    numbers = λ n m l. all_wider (last_within n) (last_within m) (λ x e. last_more x.1 x.1 (grows_in_same x.1 x.1 refl refl) n m l e) (activities s);
     lone = λ e h. h;
   }
 
   -- the containers of the process are others
-  pub grows_containers : (s : Process) (containers : Containers) → (let t : Process = record s { containers = containers } in Grows most more s t)
-  grows_containers s containers = let g = grows_same s in record { key = refl; numbers = g.numbers; lone = g.lone }
+  pub grows_containers : (s : Process) (containers : Containers) → (let t : Process = record s { containers = containers } in Grows 0 most more s t)
+  grows_containers s containers = let g = grows_same s in record { key = refl; generation = g.generation; numbers = g.numbers; lone = g.lone }
 
   module _ (p : ActivityPath) (f : Activity → Activity) where
     edited_case : (test other : ActivityPath × Activity → Bool) → ((x : ActivityPath × Activity) → test x ≡ true → other x ≡ true) → (o : Option Activities)
@@ -112,24 +113,23 @@ module _ (most : ℕ) (more : Bool) where
     edited_case test other wider (Some t) h k = changed_all test other wider p f t h k
 
     -- one activity is changed
-    pub grows_edited : (s : Process) → ((a : Activity) → activity_at p s ≡ Some a → GrowsIn most more a (f a)) → Grows most more s (edited p f s)
+    pub grows_edited : (s : Process) → ((a : Activity) → activity_at p s ≡ Some a → GrowsIn most more a (f a)) → Grows 0 most more s (edited p f s)
     grows_edited s g = record {
       key = refl;
-      numbers = λ n m l h.
-          let a = and_parts (nat_le s.generation n) _ h in
-          both_so _ _ (generation_more s n m l a.0)
-          (edited_case (last_within n) (last_within m) (λ x e. last_more x.1 x.1 (grows_in_same x.1 x.1 refl refl) n m l e) s.tree
-          (λ b there e. last_more b (f b) (g b there) n m l e) a.1);
+      generation = omega arith;
+      numbers = λ n m l.
+          edited_case (last_within n) (last_within m) (λ x e. last_more x.1 x.1 (grows_in_same x.1 x.1 refl refl) n m l e) s.tree
+          (λ b there e. last_more b (f b) (g b there) n m l e);
       lone = λ e h.
           edited_case is_bare_root is_bare_root (λ x k. k) s.tree (λ b there k. lone_still p b (f b) (g b there) e k) h;
     }
 
     -- the one that is there is changed
-    pub grows_at : (s : Process) (a : Activity) → activity_at p s ≡ Some a → GrowsIn most more a (f a) → Grows most more s (edited p f s)
+    pub grows_at : (s : Process) (a : Activity) → activity_at p s ≡ Some a → GrowsIn most more a (f a) → Grows 0 most more s (edited p f s)
     grows_at s a there g = grows_edited s (λ b there_too. let e : a ≡ b = cc in subst (λ x. GrowsIn most more x (f x)) e g)
 
   -- an activity's mode changes
-  pub grows_by_cause : (p : ActivityPath) (why : Cause) (code : Option Name) (s : Process) → Grows most more s (edited p (by_cause why code) s)
+  pub grows_by_cause : (p : ActivityPath) (why : Cause) (code : Option Name) (s : Process) → Grows 0 most more s (edited p (by_cause why code) s)
   grows_by_cause p why code s = grows_edited p (by_cause why code) s (λ a there. grows_in_same a (by_cause why code a) refl refl)
 
   -- ---- activities become COMPLETE
@@ -149,37 +149,38 @@ module _ (most : ℕ) (more : Bool) where
     complete_case test other h None k = refl
     complete_case test other h (Some t) k = mapped_all test other (completed_one p s code) h t k
 
-    pub grows_complete : (whole : Process) → Grows most more whole (complete p s code whole)
+    pub grows_complete : (whole : Process) → Grows 0 most more whole (complete p s code whole)
     grows_complete whole = record {
       key = refl;
-      numbers = λ n m l h.
-          let a = and_parts (nat_le whole.generation n) _ h in
-          both_so _ _ (generation_more whole n m l a.0)
-          (complete_case (last_within n) (last_within m) (λ x e. last_more x.1 (completed_one p s code x) (grows_completed x) n m l e) whole.tree a.1);
+      generation = omega arith;
+      numbers = λ n m l.
+          complete_case (last_within n) (last_within m) (λ x e. last_more x.1 (completed_one p s code x) (grows_completed x) n m l e) whole.tree;
       lone = λ e h.
           complete_case is_bare_root is_bare_root (λ x k. lone_still x.0 x.1 (completed_one p s code x) (grows_completed x) e k) whole.tree h;
     }
 
   -- ---- the whole tree goes
 
-  pub grows_purged : (s : Process) → Grows most more s (purged s)
-  grows_purged s = record {
-    key = refl;
-    numbers = λ n m l h. let a = and_parts (nat_le s.generation n) _ h in both_so _ _ (generation_more s n m l a.0) refl;
-    lone = λ e h. refl;
-  }
+  pub grows_purged : (s : Process) → Grows 0 most more s (purged s)
+  grows_purged s = record { key = refl; generation = omega arith; numbers = λ n m l h. refl; lone = λ e h. refl }
 
 -- ---- the key is defined again
-
-one_more : (n m g : ℕ) → n + 1 ≤ m → nat_le g n ≡ true → nat_le (g + 1) m ≡ true
-one_more n m g l e = let d : g ≤ n = leb-true g n e in le-leb (g + 1) m (omega arith)
 
 none_below : (m : ℕ) → nat_le 0 m ≡ true
 none_below m = le-leb 0 m (omega arith)
 
-pub grows_planted : (more : Bool) (transid program : Name) (s : Process) → Grows 1 more s (planted (new_root transid program) s)
-grows_planted more transid program s = record {
+pub grows_planted : (most : ℕ) (more : Bool) (transid program : Name) (s : Process) → Grows 1 most more s (planted (new_root transid program) s)
+grows_planted most more transid program s = record {
   key = refl;
-  numbers = λ n m l h. let a = and_parts (nat_le s.generation n) _ h in both_so _ _ (one_more n m s.generation l a.0) (both_so _ _ (none_below m) refl);
+  generation = omega arith;
+  numbers = λ n m l h. both_so _ _ (none_below m) refl;
   lone = λ e h. refl;
 }
+
+-- ---- what a process is within
+
+-- within these bounds before, it is within those behind
+pub grows_within : (once most : ℕ) (more : Bool) (s t : Process) → Grows once most more s t → (g n h m : ℕ) → g + once ≤ h → n + most ≤ m → is_within g n s ≡ true → is_within h m t ≡ true
+grows_within once most more s t k g n h m l j w =
+    let a = and_parts (nat_le s.generation g) (numbers_within n s) w in
+    both_so _ _ (at_most g once s.generation t.generation k.generation a.0 h l) (k.numbers n m j a.1)

@@ -1,8 +1,8 @@
 -- How much more a process has behind each command.
-use Rattle.std.proofs.Common.{◌≡◌, ℕ, Bool, true, false, cond, not, ◌&&◌, nat_le, List, [], ◌∷◌, Option, Some, None, is_some, is_none, unwrap_or, refl, sym, subst}
+use Rattle.std.proofs.Common.{◌≡◌, ℕ, ◌+◌, ◌≤◌, Bool, true, false, cond, not, ◌&&◌, nat_le, List, [], ◌∷◌, Option, Some, None, is_some, is_none, unwrap_or, refl, sym, subst, arith}
 use Rattle.bts_names.specs.Names.{Name, ActivityPath, Bytes}
 use Rattle.bts_names.specs.Named.{lookup, is_there, without}
-use Rattle.bts_names.specs.Answer.{Answer}
+use Rattle.bts_names.specs.Answer.{Answer, refused, done}
 use Rattle.bts_names.specs.declared.reply.Resp.TheVariants as resp
 use Rattle.bts_names.specs.declared.reply.Reason.{Reason}
 use Rattle.bts_names.specs.declared.reply.Reason.TheVariants as reason
@@ -27,22 +27,23 @@ use Rattle.bts_timer.specs.Due.{is_unexpired_status}
 use Rattle.bts_timer.specs.Timers.{Timers, force_refusal, status_or_missing, with_status}
 use Rattle.bts_tree.specs.declared.activity.Activity.{Activity}
 use Rattle.bts_tree.specs.Activities.{has_entries, is_at_rest, is_complete, is_dormant, is_initial}
-use Rattle.bts_tree.specs.Processes.{Process, activity_at, edited, has_tree, with_pool}
+use Rattle.bts_tree.specs.Processes.{Process, activity_at, edited, has_tree, purged, with_pool}
 use Rattle.bts_tree.specs.Scopes.{is_empty}
 use Rattle.bts_tree.specs.Soundness.{IsSoundInFrames}
 use Rattle.bts_rows.specs.ActRows as row
 use Rattle.bts_rows.specs.FamilyRows as family
 use Rattle.bts_rows.specs.RequestRows as request
 use Rattle.bts_rows.specs.Rows as rows
-use Rattle.bts_rows.specs.Rows.{act_at, request_in}
-use Rattle.bts_rows.specs.Bounds.{makes_more}
+use Rattle.bts_rows.specs.Rows.{act_at, keeping, request_in}
+use Rattle.bts_rows.specs.Bounds.{makes_more, raised_by}
 use Rattle.bts_rows.specs.Targets.{Here, Store, at_place, in_activity, in_request, is_read_only, of_activity, of_process, stored, with_stored}
 use Rattle.bts_rows.specs.declared.held.Held.{Held}
+use Rattle.bts_rows.specs.declared.held.Held.TheVariants as holds
 use Rattle.bts_rows.proofs.ActSound.{define_allowed, order_case, own_sound}
 use Rattle.bts_rows.proofs.Frames.{act_on_whole}
 use Rattle.bts_rows.proofs.Grows.{Grows, grows_at, grows_complete, grows_containers, grows_edited, grows_in_same, grows_planted, grows_purged, grows_same}
 use Rattle.bts_rows.proofs.LastNumbers.{IsNext, next_added, next_by_call, next_composite, next_defined, next_deleted, next_fired, next_fired_if, next_left, next_removed_if}
-use Rattle.bts_rows.proofs.Leaving.{Leaves, leaves_for, leaves_kept, leaves_ok, leaves_one, leaves_own, leaves_some, leaves_target, leaves_when}
+use Rattle.bts_rows.proofs.Leaving.{Leaves, leaves_for, leaves_ok, leaves_one, leaves_own, leaves_some, leaves_target, leaves_when}
 
 -- ---- timers of an activity that has none
 
@@ -61,6 +62,20 @@ abbrev makes_in : Here → Command → Bool
 makes_in (in_activity p) c = makes_more c
 makes_in (in_request h) c = false
 
+-- ---- what a request has acquired
+
+pub raised_once : (held : Held) (g : ℕ) → raised_by held g ≤ g + 1
+raised_once holds.Never g = omega arith
+raised_once holds.Process g = omega arith
+raised_once (holds.Activity p) g = omega arith
+raised_once holds.Purged g = omega arith
+
+never_raised : (held : Held) → request.has_acquired held ≡ false → (g : ℕ) → raised_by held g ≡ g
+never_raised holds.Never e g = refl
+never_raised holds.Process e g = cc
+never_raised (holds.Activity p) e g = cc
+never_raised holds.Purged e g = cc
+
 -- ---- the signal of RUN
 
 next_signal : (event : Option Name) (p : Pool) → IsSoundPool p → IsNext p (family.signalled event p)
@@ -69,13 +84,17 @@ next_signal (Some e) p s = next_fired e p s
 
 module _ (more : Bool) (frames : List ActivityPath) (s : Process) (sound : IsSoundInFrames frames s) where
   abbrev Fine : Process → Type 0
-  Fine = Grows 1 more s
+  Fine = Grows 0 1 more s
 
   abbrev pub GrowsBehind : Answer Process → Type 0
   GrowsBehind x = Leaves Fine s x
 
   still : Fine s
   still = grows_same 1 more s
+
+  -- so it does where its generation may rise once
+  wider : (t : Process) → Fine t → Grows 1 1 more s t
+  wider t f = record { key = f.key; generation = let a = f.generation in omega (arith, a); numbers = f.numbers; lone = f.lone }
 
   own_pool : (p : ActivityPath) (a : Activity) → activity_at p s ≡ Some a → IsSoundPool a.pool
   own_pool p a h = (own_sound frames s sound p a h).pool
@@ -251,34 +270,49 @@ module _ (more : Bool) (frames : List ActivityPath) (s : Process) (sound : IsSou
     reset_grows of.AcqProcess e = cc
     reset_grows of.AcqActivity e = cc
 
-    abbrev FinePair : Process × Held → Type 0
-    FinePair x = Fine x.0
+    -- the generation rises once at most, and only where it acquires the first thing
+    pub record GrowsHolding (x : Process × Held) : Type 0 where
+      pub process : Grows 1 1 more s x.0
+      pub once : (g : ℕ) → s.generation ≤ raised_by held g → x.0.generation ≤ raised_by x.1 g
 
-    define_grows : (transid program : Name) → Leaves FinePair (s, held) (request.define_process_row (in_request held) s transid program)
+    -- in a process that grows so, and with this acquired where nothing was before or as much
+    holding : (t : Process) (h : Held) → Fine t → ((g : ℕ) → raised_by held g ≤ raised_by h g) → GrowsHolding (t, h)
+    holding t h f more_held = record {
+      process = wider t f;
+      once = λ g l. let a = more_held g in let b = f.generation in omega (arith, a, b, l);
+    }
+
+    still_holding : GrowsHolding (s, held)
+    still_holding = holding s held still (λ g. omega arith)
+
+    define_grows : (transid program : Name) → Leaves GrowsHolding (s, held) (request.define_process_row (in_request held) s transid program)
     define_grows transid program =
-        leaves_when FinePair (s, held) still resp.Invreq reason.Acquired (request.has_acquired held) _ λ a.
-        leaves_when FinePair (s, held) still resp.Processerr reason.Taken (has_tree s) _ λ t.
-        grows_planted more transid program s
+        leaves_when GrowsHolding (s, held) still_holding resp.Invreq reason.Acquired (request.has_acquired held) _ λ a.
+        leaves_when GrowsHolding (s, held) still_holding resp.Processerr reason.Taken (has_tree s) _ λ t.
+        record {
+          process = grows_planted 1 more transid program s;
+          once = λ g l. let e = never_raised held a g in omega (arith, e, l);
+        }
 
-    acquire_grows : Leaves FinePair (s, held) (request.acquire_process_row (in_request held) s)
+    acquire_grows : Leaves GrowsHolding (s, held) (request.acquire_process_row (in_request held) s)
     acquire_grows =
-        leaves_when FinePair (s, held) still resp.Invreq reason.Acquired (request.has_acquired held) _ λ a.
-        leaves_when FinePair (s, held) still resp.Processerr reason.Missing (not (has_tree s)) _ λ t.
-        still
+        leaves_when GrowsHolding (s, held) still_holding resp.Invreq reason.Acquired (request.has_acquired held) _ λ a.
+        leaves_when GrowsHolding (s, held) still_holding resp.Processerr reason.Missing (not (has_tree s)) _ λ t.
+        holding s holds.Process still (raised_once held)
 
-    acquire_activity_grows : (path : ActivityPath) → Leaves FinePair (s, held) (request.acquire_activity_row (in_request held) s path)
+    acquire_activity_grows : (path : ActivityPath) → Leaves GrowsHolding (s, held) (request.acquire_activity_row (in_request held) s path)
     acquire_activity_grows path =
-        leaves_when FinePair (s, held) still resp.Invreq reason.Acquired (request.has_acquired held) _ λ a.
-        leaves_when FinePair (s, held) still resp.Processerr reason.Missing (not (has_tree s)) _ λ t.
-        leaves_when FinePair (s, held) still resp.Activityerr reason.Missing (not (is_some (activity_at path s))) _ λ m.
-        still
+        leaves_when GrowsHolding (s, held) still_holding resp.Invreq reason.Acquired (request.has_acquired held) _ λ a.
+        leaves_when GrowsHolding (s, held) still_holding resp.Processerr reason.Missing (not (has_tree s)) _ λ t.
+        leaves_when GrowsHolding (s, held) still_holding resp.Activityerr reason.Missing (not (is_some (activity_at path s))) _ λ m.
+        holding s (holds.Activity path) still (raised_once held)
 
-    purge_grows : Leaves FinePair (s, held) (request.purge_row (in_request held) s)
+    purge_grows : Leaves GrowsHolding (s, held) (request.purge_row (in_request held) s)
     purge_grows =
-        leaves_when FinePair (s, held) still resp.Invreq reason.NotAcquired (not (request.holds_process held)) _ λ a.
-        leaves_some FinePair (s, held) still resp.Processerr reason.Missing (activity_at [] s) _ λ root e.
-        leaves_when FinePair (s, held) still resp.Processerr reason.Mode (not (is_at_rest root)) _ λ m.
-        grows_purged 1 more s
+        leaves_when GrowsHolding (s, held) still_holding resp.Invreq reason.NotAcquired (not (request.holds_process held)) _ λ a.
+        leaves_some GrowsHolding (s, held) still_holding resp.Processerr reason.Missing (activity_at [] s) _ λ root e.
+        leaves_when GrowsHolding (s, held) still_holding resp.Processerr reason.Mode (not (is_at_rest root)) _ λ m.
+        holding (purged s) holds.Purged (grows_purged 1 more s) (raised_once held)
 
 -- ---- the tables
 
@@ -316,25 +350,30 @@ module _ (more : Bool) (frames : List ActivityPath) (s : Process) (sound : IsSou
   family_row_grows held depth _ l = grows_same 1 more s
 
   -- commands 1 to 4
-  request_row_grows : (held : Held) (c : Command) → Leaves (FinePair more frames s sound held) (s, held) (request.request_row (in_request held) s c)
+  request_row_grows : (held : Held) (c : Command) → Leaves (GrowsHolding more frames s sound held) (s, held) (request.request_row (in_request held) s c)
   unfolding request.request_row
   request_row_grows held (command.DefineProcess transid program) = define_grows more frames s sound held transid program
   request_row_grows held command.AcquireProcess = acquire_grows more frames s sound held
   request_row_grows held (command.AcquireActivity path) = acquire_activity_grows more frames s sound held path
   request_row_grows held command.PurgeProcess = purge_grows more frames s sound held
-  request_row_grows held _ = grows_same 1 more s
+  request_row_grows held _ = still_holding more frames s sound held
 
 module _ (frames : List ActivityPath) (s : Process) (sound : IsSoundInFrames frames s) where
   -- in an activity's frame
-  pub act_at_grows : (p : ActivityPath) (now : ℕ) (c : Command) → Leaves (Grows 1 (makes_more c) s) s (act_at p now s c)
+  pub act_at_grows : (p : ActivityPath) (now : ℕ) (c : Command) → Leaves (Grows 0 1 (makes_more c) s) s (act_at p now s c)
   act_at_grows p now c =
-      subst (Leaves (Grows 1 (makes_more c) s) s) (sym (act_on_whole p now s c (order_case s s.tree sound.tree))) (act_row_grows (makes_more c) frames s sound (in_activity p) now c (λ m. m))
+      subst (Leaves (Grows 0 1 (makes_more c) s) s) (sym (act_on_whole p now s c (order_case s s.tree sound.tree))) (act_row_grows (makes_more c) frames s sound (in_activity p) now c (λ m. m))
+
+  -- a row of a request that leaves what is acquired
+  kept_holding : (held : Held) (x : Answer Process) → Leaves (Grows 0 1 false s) s x → Leaves (GrowsHolding false frames s sound held) (s, held) (keeping held x)
+  kept_holding held (refused r why) g = holding false frames s sound held s held g (λ n. omega arith)
+  kept_holding held (done v t) g = holding false frames s sound held t held g (λ n. omega arith)
 
   -- in a request's first frame, but for RESET of what is acquired
-  pub request_in_grows : (held : Held) (depth now : ℕ) (c : Command) → family.resets c ≡ false → Leaves (λ (x : Process × Held). Grows 1 false s x.0) (s, held) (request_in held depth now s c)
+  pub request_in_grows : (held : Held) (depth now : ℕ) (c : Command) → family.resets c ≡ false → Leaves (GrowsHolding false frames s sound held) (s, held) (request_in held depth now s c)
   unfolding rows.row
   request_in_grows held depth now c l =
-      leaves_one (λ (x : Process × Held). Grows 1 false s x.0) (s, held) (nat_le (command_number c) 4) (nat_le (command_number c) 13) _ _ _
+      leaves_one (GrowsHolding false frames s sound held) (s, held) (nat_le (command_number c) 4) (nat_le (command_number c) 13) _ _ _
       (request_row_grows false frames s sound held c)
-      (leaves_kept (Grows 1 false s) s held (family.family_row (in_request held) depth s c) (family_row_grows false frames s sound held depth c l))
-      (leaves_kept (Grows 1 false s) s held (row.act_row (in_request held) now s c) (act_row_grows false frames s sound (in_request held) now c (λ m. m)))
+      (kept_holding held (family.family_row (in_request held) depth s c) (family_row_grows false frames s sound held depth c l))
+      (kept_holding held (row.act_row (in_request held) now s c) (act_row_grows false frames s sound (in_request held) now c (λ m. m)))

@@ -15,10 +15,10 @@ use Rattle.bts_tree.specs.Activities.{Activities, is_complete, is_untold}
 use Rattle.bts_tree.specs.Processes.{Process, activities, no_process}
 use Rattle.bts_tree.specs.Repositories.{Processes, chosen_at, chosen_of, due_among, due_at, due_in, keys_of_processes, placed_by_key, process_at, put, same_key, untold_in, without_key}
 use Rattle.bts_tree.specs.Scopes.{is_empty}
-use Rattle.bts_tree.specs.Soundness.{AreSound, FitsParent, IsSoundInFrames, IsSoundUnder, is_root}
+use Rattle.bts_tree.specs.Soundness.{AreSound, FitsParent, IsSoundInFrames, IsSoundUnder, is_root, is_within}
 use Rattle.bts_tree.proofs.New.{new_process_is_sound}
 use Rattle.bts_tree.proofs.Slots.{key_total}
-use Rattle.bts_rows.specs.Bounds.{is_bare_root, is_lone, is_within}
+use Rattle.bts_rows.specs.Bounds.{is_bare_root, is_lone}
 use Rattle.bts_rows.proofs.Bounds.{lone_none, within_none}
 use Rattle.bts_rows.proofs.Entries.{both_so}
 
@@ -51,8 +51,8 @@ none_sound key = record { tree = refl; containers = (new_process_is_sound key []
 pub sound_at : (key : Key) (repo : Processes) → AreSound repo → IsSoundInFrames [] (process_at key repo)
 sound_at key repo sound = each_at (IsSoundInFrames []) key (none_sound key) repo sound.each
 
-pub within_at : (n : ℕ) (key : Key) (repo : Processes) → list_all (is_within n) repo ≡ true → is_within n (process_at key repo) ≡ true
-within_at n key repo h = each_at (λ s. is_within n s ≡ true) key (within_none n key) repo (all_one_by_one (is_within n) repo h)
+pub within_at : (g n : ℕ) (key : Key) (repo : Processes) → list_all (is_within g n) repo ≡ true → is_within g n (process_at key repo) ≡ true
+within_at g n key repo h = each_at (λ s. is_within g n s ≡ true) key (within_none g n key) repo (all_one_by_one (is_within g n) repo h)
 
 pub lone_at : (key : Key) (repo : Processes) → list_all is_lone repo ≡ true → is_lone (process_at key repo) ≡ true
 lone_at key repo h = each_at (λ s. is_lone s ≡ true) key (lone_none key) repo (all_one_by_one is_lone repo h)

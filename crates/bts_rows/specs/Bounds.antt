@@ -1,5 +1,5 @@
--- What bounds the numbers of a process, and the commands by which more stands in its tree.
-use Rattle.std.specs.Prelude.{ℕ, Bool, true, false, ◌&&◌, nat_le}
+-- By what the generation of a process rises, and the commands by which more stands in its tree.
+use Rattle.std.specs.Prelude.{ℕ, ◌+◌, Bool, true, false, ◌&&◌}
 use Rattle.std.specs.List.{list_all}
 use Rattle.bts_command.specs.declared.command.Command.{Command}
 use Rattle.bts_command.specs.declared.command.Command.TheVariants as command
@@ -8,10 +8,14 @@ use Rattle.bts_tree.specs.declared.activity.Activity.{Activity}
 use Rattle.bts_tree.specs.Processes.{Process, activities}
 use Rattle.bts_tree.specs.Scopes.{is_empty}
 use Rattle.bts_tree.specs.Soundness.{is_root}
+use Rattle.bts_rows.specs.declared.held.Held.{Held}
+use Rattle.bts_rows.specs.declared.held.Held.TheVariants as held
 
--- the generation and each activity's last entry number are at most n
-abbrev pub is_within : ℕ → Process → Bool
-is_within n s = nat_le s.generation n && list_all (λ x. nat_le x.1.pool.last n) (activities s)
+-- what bounds the generation of a request's process, where this bounded it before the request acquired anything: it
+-- defines the process at its first acquisition, if ever
+abbrev pub raised_by : Held → ℕ → ℕ
+raised_by held.Never g = g
+raised_by _ g = g + 1
 
 -- a root without timers
 abbrev pub is_bare_root : ActivityPath × Activity → Bool

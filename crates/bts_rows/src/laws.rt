@@ -8,9 +8,9 @@ ghost use Rattle.bts_names.specs.Answer.{left_by, reply_of};
 ghost use Rattle.bts_names.specs.Names.{ActivityPath};
 ghost use Rattle.bts_command.specs.declared.command.Command.{Command};
 ghost use Rattle.bts_tree.specs.Processes.{Process, activities, activity_at};
-ghost use Rattle.bts_tree.specs.Soundness.{IsSoundInFrames};
+ghost use Rattle.bts_tree.specs.Soundness.{IsSoundInFrames, is_within};
 ghost use Rattle.bts_rows.specs.ActRows.{act_row};
-ghost use Rattle.bts_rows.specs.Bounds.{is_lone, is_within, makes_more};
+ghost use Rattle.bts_rows.specs.Bounds.{is_lone, makes_more, raised_by};
 ghost use Rattle.bts_rows.specs.FamilyRows.{family_row, resets};
 ghost use Rattle.bts_command.specs.Given.{IsGiven};
 ghost use Rattle.bts_rows.specs.Replies.{IsProper, is_normal};
@@ -49,15 +49,16 @@ pub fn commands_of_a_request_keep_soundness()
         → IsSoundInFrames [] s → IsSoundInFrames [] (left_by (s, held) (request_in held depth now s c)).0 }
 {}
 
-/// By one command the generation of a process, and the last entry number of each of its activities, rise by one at
-/// most: by a command on containers, events and timers in the frame of an activity, and in a request's first frame by
-/// each but RESET of what is acquired.
+/// By one command the last entry number of each activity rises by one at most: by a command on containers, events and
+/// timers in the frame of an activity, and in a request's first frame by each but RESET of what is acquired. The
+/// generation rises in a request's first frame alone, once, and only by the command that acquires the first thing there.
 pub fn numbers_rise_by_one()
-    ensures frame { (frames : List ActivityPath) (path : ActivityPath) (now n : ℕ) (s : Process) (c : Command)
-        → IsSoundInFrames frames s → is_within n s ≡ true → is_within (n + 1) (left_by s (act_at path now s c)) ≡ true }
-    ensures request { (frames : List ActivityPath) (held : Held) (depth now n : ℕ) (s : Process) (c : Command)
-        → resets c ≡ false → IsSoundInFrames frames s → is_within n s ≡ true
-        → is_within (n + 1) (left_by (s, held) (request_in held depth now s c)).0 ≡ true }
+    ensures frame { (frames : List ActivityPath) (path : ActivityPath) (now g n : ℕ) (s : Process) (c : Command)
+        → IsSoundInFrames frames s → is_within g n s ≡ true
+        → is_within g (n + 1) (left_by s (act_at path now s c)) ≡ true }
+    ensures request { (frames : List ActivityPath) (held : Held) (depth now g n : ℕ) (s : Process) (c : Command)
+        → resets c ≡ false → IsSoundInFrames frames s → is_within (raised_by held g) n s ≡ true
+        → let x = left_by (s, held) (request_in held depth now s c) in is_within (raised_by x.1 g) (n + 1) x.0 ≡ true }
 {}
 
 /// Only DEFINE ACTIVITY and DEFINE TIMER make children and timers, and only in an activity's frame: each other one of

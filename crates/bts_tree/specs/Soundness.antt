@@ -130,9 +130,13 @@ pub record AreSound (repo : Processes) : Type 0 where
 
 -- ---- bounds
 
--- behind so many committed units no generation is above their number, and no entry number above 512 times it
+-- the generation is at most g, and each activity's last entry number at most n
+abbrev pub is_within : ℕ → ℕ → Process → Bool
+is_within g n s = nat_le s.generation g && list_all (λ x. nat_le x.1.pool.last n) (activities s)
+
+-- behind so many committed units no generation is above their number, and no last entry number above 512 times it
 abbrev pub bound_of_units : ℕ → Processes → Bool
-bound_of_units units = list_all (λ s. nat_le s.generation units && list_all (λ x. nat_le x.1.pool.last (512 * units)) (activities s))
+bound_of_units units = list_all (is_within units (512 * units))
 
 -- every last entry number is below n
 abbrev pub numbers_below : ℕ → Process → Bool

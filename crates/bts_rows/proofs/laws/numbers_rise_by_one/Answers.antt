@@ -1,9 +1,8 @@
-use Rattle.std.proofs.Common.{◌+◌, arith}
 use Rattle.bts_rows.proofs.laws.numbers_rise_by_one.Goals as goal
-use Rattle.bts_rows.proofs.GrowthRows.{act_at_grows, request_in_grows}
+use Rattle.bts_rows.proofs.Bounds.{within_act, within_request}
 
 pub returns-clause-frame : goal.returns-clause-frame
-returns-clause-frame c = λ frames path now n s command sound. (act_at_grows frames s sound path now command).numbers n (n + 1) (omega arith)
+returns-clause-frame c = λ frames path now g n s command sound. within_act frames s sound path now g n command
 
 pub returns-clause-request : goal.returns-clause-request
-returns-clause-request c = λ frames held depth now n s command l sound. (request_in_grows frames s sound held depth now command l).numbers n (n + 1) (omega arith)
+returns-clause-request c = λ frames held depth now g n s command l sound. within_request frames s sound held depth now g n command l

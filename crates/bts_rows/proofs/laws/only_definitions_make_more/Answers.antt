@@ -6,4 +6,4 @@ pub returns-clause-frame : goal.returns-clause-frame
 returns-clause-frame c = λ frames path now s command none sound. (act_at_grows frames s sound path now command).lone none
 
 pub returns-clause-request : goal.returns-clause-request
-returns-clause-request c = λ frames held depth now s command l sound. (request_in_grows frames s sound held depth now command l).lone refl
+returns-clause-request c = λ frames held depth now s command l sound. (request_in_grows frames s sound held depth now command l).process.lone refl
