@@ -182,7 +182,7 @@ kept_if false n q last r = r
 
 kept_rest : (q : List Entry) (last : ℕ) → Rises 0 q last → Rises 0 (rest_of_queue q) last
 kept_rest [] last r = r
-kept_rest (e ∷ es) last r = rises_lower e.number 0 es last (omega arith) r.1
+kept_rest (e ∷ es) last r = rises_lower (e.number + 1) 0 es last (omega arith) r.1
 
 kept_rises : (call : Call) (p : Pool) → IsSoundPool p → Rises 0 (kept call p) p.last
 kept_rises (define n trigger) p s = s.numbers
@@ -205,11 +205,14 @@ skip_old : (t : Bool) (e : Entry) (es : List Entry) → t ≡ false → cond t (
 skip_old true e es h = cc
 skip_old false e es h = refl
 
+at_most : (n last : ℕ) → n + 1 ≤ last + 1 → n ≤ last
+at_most n last h = omega arith
+
 new_only : (low : ℕ) (q more : List Entry) (last : ℕ) → Rises low q last → filter (is_new last) (q ++ more) ≡ filter (is_new last) more
 new_only low [] more last r = refl
 new_only low (e ∷ es) more last r =
-    skip_old (nat_lt last e.number) e (filter (is_new last) (es ++ more)) (le-ltb last e.number (rises_bound e.number es last r.1))
-    ∙ new_only e.number es more last r.1
+    skip_old (nat_lt last e.number) e (filter (is_new last) (es ++ more)) (le-ltb last e.number (at_most e.number last (rises_bound (e.number + 1) es last r.1)))
+    ∙ new_only (e.number + 1) es more last r.1
 
 -- what a call makes
 pub data Makes (p q : Pool) (m : List Entry) : Type 0 where
@@ -254,12 +257,12 @@ parts call p o s = parts_by p (after call p) (kept call p) (made call p) refl (k
 
 -- ---- numbers over a list of calls
 
-rises_on : (p q : Pool) (m rest : List Entry) (end : ℕ) → Makes p q m → Rises q.last rest end → Rises p.last (m ++ rest) end
-rises_on p q m rest end (nothing e l) r = subst (λ xs. Rises p.last (xs ++ rest) end) (sym e) (subst (λ n. Rises n rest end) l r)
+rises_on : (p q : Pool) (m rest : List Entry) (end : ℕ) → Makes p q m → Rises (q.last + 1) rest end → Rises (p.last + 1) (m ++ rest) end
+rises_on p q m rest end (nothing e l) r = subst (λ xs. Rises (p.last + 1) (xs ++ rest) end) (sym e) (subst (λ n. Rises (n + 1) rest end) l r)
 rises_on p q m rest end (one c e l) r =
-    subst (λ xs. Rises p.last (xs ++ rest) end) (sym e) (omega arith, subst (λ n. Rises n rest end) l r)
+    subst (λ xs. Rises (p.last + 1) (xs ++ rest) end) (sym e) (omega arith, subst (λ n. Rises (n + 1) rest end) l r)
 
-pub numbers_rise : (calls : List Call) (p : Pool) → AreOwed calls p → IsSoundPool p → Rises p.last (made_by calls p) (behind calls p).last
+pub numbers_rise : (calls : List Call) (p : Pool) → AreOwed calls p → IsSoundPool p → Rises (p.last + 1) (made_by calls p) (behind calls p).last
 numbers_rise [] p o s = omega arith
 numbers_rise (c ∷ cs) p o s =
     rises_on p (after c p) (made c p) (made_by cs (after c p)) (behind cs (after c p)).last (makes c p o.0 s) (numbers_rise cs (after c p) o.1 (after_sound c p o.0 s))

@@ -94,13 +94,13 @@ pub rises_lower : (low least : ℕ) (q : List Entry) (last : ℕ) → least ≤ 
 rises_lower low least [] last l r = omega arith
 rises_lower low least (e ∷ es) last l r = (omega (arith, r.0), r.1)
 
-pub rises_bound : (low : ℕ) (q : List Entry) (last : ℕ) → Rises low q last → low ≤ last
+pub rises_bound : (low : ℕ) (q : List Entry) (last : ℕ) → Rises low q last → low ≤ last + 1
 rises_bound low [] last r = r
-rises_bound low (e ∷ es) last r = omega (arith, r.0, rises_bound e.number es last r.1)
+rises_bound low (e ∷ es) last r = omega (arith, r.0, rises_bound (e.number + 1) es last r.1)
 
 pub rises_push : (low : ℕ) (q : List Entry) (last : ℕ) (n : Name) → Rises low q last → Rises low (q ++ record { name = n; number = last + 1 } ∷ []) (last + 1)
 rises_push low [] last n r = (omega arith, omega arith)
-rises_push low (e ∷ es) last n r = (r.0, rises_push e.number es last n r.1)
+rises_push low (e ∷ es) last n r = (r.0, rises_push (e.number + 1) es last n r.1)
 
 -- ---- entries
 
@@ -146,7 +146,7 @@ retrieved_sound p e es q s = record {
       subst (λ o. EntriesFit n o (holder (set_bit p.events e.name false) n) (entries_of n es)) (sym (lookup-change p.events e.name n (with_bit false)))
       (subst (λ h. EntriesFit n (cond (same e.name n) (option_map (with_bit false) (lookup n p.events)) (lookup n p.events)) h (entries_of n es))
       (sym (holder-change p.events e.name n (with_bit false) (bit_lists false n))) t);
-  numbers = let r : Rises 0 (e ∷ es) p.last = subst (λ x. Rises 0 x p.last) q s.numbers in rises_lower e.number 0 es p.last (omega arith) r.1;
+  numbers = let r : Rises 0 (e ∷ es) p.last = subst (λ x. Rises 0 x p.last) q s.numbers in rises_lower (e.number + 1) 0 es p.last (omega arith) r.1;
 }
 
 -- ---- entries at the end, and dropped
@@ -181,13 +181,13 @@ entries_dropped n name (e ∷ es) =
     entries_cond (not (same e.name name)) n e (dropped es name)
     ∙ drop_sum (same e.name name) (same name n) (same e.name n) _ (entries_of n es) (same_left e.name name n) (not_both e.name name n) (entries_dropped n name es)
 
-rise_case : (x : Bool) (low : ℕ) (e : Entry) (es : List Entry) (last : ℕ) → low < e.number → Rises e.number es last → Rises low (cond x (e ∷ es) es) last
+rise_case : (x : Bool) (low : ℕ) (e : Entry) (es : List Entry) (last : ℕ) → low ≤ e.number → Rises (e.number + 1) es last → Rises low (cond x (e ∷ es) es) last
 rise_case true low e es last h r = (h, r)
-rise_case false low e es last h r = rises_lower e.number low es last (omega arith) r
+rise_case false low e es last h r = rises_lower (e.number + 1) low es last (omega arith) r
 
 pub rises_dropped : (low : ℕ) (q : List Entry) (last : ℕ) (name : Name) → Rises low q last → Rises low (dropped q name) last
 rises_dropped low [] last name r = r
-rises_dropped low (e ∷ es) last name r = rise_case (not (same e.name name)) low e (dropped es name) last r.0 (rises_dropped e.number es last name r.1)
+rises_dropped low (e ∷ es) last name r = rise_case (not (same e.name name)) low e (dropped es name) last r.0 (rises_dropped (e.number + 1) es last name r.1)
 
 -- ---- an atomic event that is no sub-event
 

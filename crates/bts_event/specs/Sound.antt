@@ -1,5 +1,5 @@
 -- What every pool keeps.
-use Rattle.std.specs.Prelude.{◌≡◌, ℕ, ◌<◌, ◌≤◌, ◌+◌, Bool, true, false, cond, ◌&&◌, List, [], ◌∷◌, length, Option, Some, None}
+use Rattle.std.specs.Prelude.{◌≡◌, ℕ, ◌≤◌, ◌+◌, Bool, true, false, cond, ◌&&◌, List, [], ◌∷◌, length, Option, Some, None}
 use Rattle.std.specs.Map.{keys_of}
 use Rattle.std.specs.List.Sorted.{IsStrictlySortedBy}
 use Rattle.std.specs.Ordering.{nat_cmp}
@@ -42,10 +42,10 @@ EntriesFit n (Some (atomic a)) None many = many ≡ one_if a.fired
 EntriesFit n (Some (atomic a)) (Some c) many = many ≡ 0
 EntriesFit n (Some (composite k)) h many = Unit {0}
 
--- numbers rise from above `low` up to at most `last`
+-- numbers rise, the first one is at least `least`, and each is at most `last`, which none falls below
 abbrev pub Rises : ℕ → List Entry → ℕ → Type 0
-Rises low [] last = low ≤ last
-Rises low (e ∷ es) last = (low < e.number) × Rises e.number es last
+Rises least [] last = least ≤ last + 1
+Rises least (e ∷ es) last = (least ≤ e.number) × Rises (e.number + 1) es last
 
 pub record AreSoundEvents (events : Events) : Type 0 where
   pub ordered : IsStrictlySortedBy (slice_cmp nat_cmp) (keys_of events)

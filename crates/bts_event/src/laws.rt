@@ -1,5 +1,5 @@
 // What holds of every pool and its queue, over any list of calls.
-ghost use Rattle.std.specs.Prelude.{◌≡◌, ◌≤◌, ℕ, List, ◌∷◌, ◌++◌, length, false, Ok};
+ghost use Rattle.std.specs.Prelude.{◌≡◌, ◌≤◌, ◌+◌, ℕ, List, ◌∷◌, ◌++◌, length, false, Ok};
 ghost use Rattle.bts_names.specs.Names.{Name, same, initial_name};
 ghost use Rattle.bts_names.specs.Named.{lookup};
 ghost use Rattle.bts_names.specs.declared.state.EventKind.{EventKind};
@@ -19,7 +19,7 @@ pub fn calls_keep_the_facts()
 /// list of calls makes rise, from above the last number before the list up to at most the last behind it.
 pub fn numbers_are_never_given_again()
     ensures { (pool : Pool) (calls : List Call) → IsSoundPool pool → AreOwed calls pool
-        → Rises pool.last (made_by calls pool) (behind calls pool).last }
+        → Rises (pool.last + 1) (made_by calls pool) (behind calls pool).last }
 {}
 
 /// Each call, made behind any others, makes at most one entry. So at most one composite turns by it.
