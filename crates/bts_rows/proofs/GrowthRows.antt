@@ -270,16 +270,18 @@ module _ (more : Bool) (frames : List ActivityPath) (s : Process) (sound : IsSou
     reset_grows of.AcqProcess e = cc
     reset_grows of.AcqActivity e = cc
 
-    -- the generation rises once at most, and only where it acquires the first thing
+    -- the generation rises once at most, and only where it acquires the first thing; what it acquired stays acquired
     pub record GrowsHolding (x : Process × Held) : Type 0 where
       pub process : Grows 1 1 more s x.0
       pub once : (g : ℕ) → s.generation ≤ raised_by held g → x.0.generation ≤ raised_by x.1 g
+      pub raised : (g : ℕ) → raised_by held g ≤ raised_by x.1 g
 
     -- in a process that grows so, and with this acquired where nothing was before or as much
     holding : (t : Process) (h : Held) → Fine t → ((g : ℕ) → raised_by held g ≤ raised_by h g) → GrowsHolding (t, h)
     holding t h f more_held = record {
       process = wider t f;
       once = λ g l. let a = more_held g in let b = f.generation in omega (arith, a, b, l);
+      raised = more_held;
     }
 
     still_holding : GrowsHolding (s, held)
@@ -292,6 +294,7 @@ module _ (more : Bool) (frames : List ActivityPath) (s : Process) (sound : IsSou
         record {
           process = grows_planted 1 more transid program s;
           once = λ g l. let e = never_raised held a g in omega (arith, e, l);
+          raised = raised_once held;
         }
 
     acquire_grows : Leaves GrowsHolding (s, held) (request.acquire_process_row (in_request held) s)

@@ -1,32 +1,37 @@
 -- An ended unit that is played again, and the processes behind it.
-use Rattle.std.proofs.Common.{◌≡◌, ◌≢◌, ℕ, ◌+◌, ◌≤◌, ◌^◌, Bool, true, false, cond, List, [], ◌∷◌, length, Some, None, is_some, option_map, inl, inr, refl, sym, ap, ◌∙◌, subst, arith}
+use Rattle.std.proofs.Common.{◌≡◌, ◌≢◌, ℕ, ◌+◌, ◌≤◌, ◌^◌, Bool, true, false, cond, List, [], ◌∷◌, length, Option, Some, None, is_some, option_map, inl, inr, refl, sym, ap, ◌∙◌, subst, arith, true≢false}
 use Rattle.std.specs.List.{AllByRecursion, list_all}
 use Rattle.std.proofs.lemmas.Bool.{and_from, and_parts}
 use Rattle.bts_command.specs.Given.{IsGiven}
 use Rattle.bts_command.specs.Kinds.{is_rollback, key_of}
 use Rattle.bts_command.specs.declared.command.Call.{Call}
+use Rattle.bts_command.specs.declared.command.Command.{Command}
 use Rattle.bts_command.specs.declared.ended.End.{End}
 use Rattle.bts_command.specs.declared.ended.End.TheVariants.{Commit, Rollback, Abend}
 use Rattle.bts_command.specs.declared.ended.Ended.{Ended}
 use Rattle.bts_command.specs.declared.ended.UnitKind.{UnitKind}
 use Rattle.bts_command.specs.declared.ended.UnitKind.TheVariants as unit
+use Rattle.bts_names.specs.Names.{ActivityPath}
 use Rattle.bts_names.specs.declared.key.Key.{Key}
 use Rattle.bts_names.proofs.Sameness.{keys_exact}
-use Rattle.bts_rows.specs.Bounds.{is_within}
+use Rattle.bts_rows.specs.declared.held.Held.{Held}
+use Rattle.bts_rows.specs.declared.held.Held.TheVariants as held
+use Rattle.bts_rows.specs.Bounds.{raised_by}
 use Rattle.bts_rows.proofs.Bounds.{within_more}
-use Rattle.bts_rows.proofs.Repositories.{put_all}
+use Rattle.bts_rows.proofs.GrowthRows.{raised_once}
+use Rattle.bts_rows.proofs.Repositories.{put_all, sound_at, within_at}
 use Rattle.bts_tree.specs.Processes.{Process}
 use Rattle.bts_tree.specs.Repositories.{Processes, process_at, put, same_key}
-use Rattle.bts_tree.specs.Soundness.{IsSoundInFrames}
+use Rattle.bts_tree.specs.Soundness.{AreSound, IsSoundInFrames, is_within}
 use Rattle.bts_unit.specs.Calls.{commands_of, made, run, unit_behind}
 use Rattle.bts_unit.specs.Frames.{UnitOfWork, path_of, start}
 use Rattle.bts_unit.specs.OneFrame.{is_of_one_frame, may_begin}
 use Rattle.bts_unit.specs.Playing.{IsReplay, after, begun, budgeted, finished, may_run, process_of, put_back, replayed}
 use Rattle.bts_unit.specs.Refusals.{IsOtherCall, IsToldOtherwise, calls_given, is_played}
 use Rattle.bts_unit.specs.Replays.{CanRepeat}
-use Rattle.bts_unit.specs.Soundness.{IsSoundUnit, IsSoundWithin}
+use Rattle.bts_unit.specs.Soundness.{IsSoundUnit, IsSoundWithin, definitions_by}
 use Rattle.bts_unit.proofs.AtEnd.{frames_gone, stopping, stops}
-use Rattle.bts_unit.proofs.BoundedUnits.{AreAsked, abended_by, any, key_rises, left_by_abend, of_key, within}
+use Rattle.bts_unit.proofs.BoundedUnits.{AreAsked, abended_by, any, in_frames, key_rises, left_by_abend, nothing, nothing_rises, of_key, within, within_rises}
 use Rattle.bts_unit.proofs.Opening.{fit_behind_all, made_all}
 use Rattle.bts_unit.proofs.Rising.{Rises}
 
@@ -35,13 +40,13 @@ use Rattle.bts_unit.proofs.Rising.{Rises}
 abbrev pub AreGiven : Ended → Type 0
 AreGiven e = AllByRecursion (λ c. IsGiven c.command × (is_of_one_frame (path_of e.unit) c.command ≡ true)) e.calls
 
-pub can_replay : (e : Ended) (s : Process) (u : UnitOfWork) → u ≡ start e.unit e.moment s → IsSoundUnit u → IsSoundWithin (2 ^ 63) u → length e.calls ≤ 500 → AreGiven e → CanRepeat u e.calls
+pub can_replay : (e : Ended) (s : Process) (u : UnitOfWork) → u ≡ start e.unit e.moment s → IsSoundUnit u → IsSoundWithin (2 ^ 63) (2 ^ 63) u → length e.calls ≤ 500 → AreGiven e → CanRepeat u e.calls
 can_replay e s u is sound within few given = subst (λ v. CanRepeat v e.calls) (sym is) (record {
   at = path_of e.unit;
   stands = refl;
   fits = refl;
   sound = subst IsSoundUnit is sound;
-  within = subst (λ n. IsSoundWithin n (start e.unit e.moment s)) (more (2 ^ 63)) (subst (IsSoundWithin (2 ^ 63)) is within);
+  within = subst (λ n. IsSoundWithin (2 ^ 63) n (start e.unit e.moment s)) (more (2 ^ 63)) (subst (IsSoundWithin (2 ^ 63) (2 ^ 63)) is within);
   few = let m : length e.calls ≤ 500 = few in omega (arith, m);
   given = given;
 })
@@ -104,14 +109,20 @@ module _ (e : Ended) (s : Process) (may : may_begin e.unit s ≡ true) (u : Unit
 
 -- ---- what it leaves
 
-as_asked : (kind : UnitKind) (calls : List Call) → AllByRecursion (λ c. IsGiven c.command × (is_of_one_frame (path_of kind) c.command ≡ true)) calls → AreAsked any kind (commands_of calls)
-as_asked kind [] h = tt
-as_asked kind (c ∷ cs) h = (((h.0.0, tt), h.0.1), as_asked kind cs h.1)
+as_asked : (Asked : Option ActivityPath → Command → Type 0) (kind : UnitKind) → ((c : Command) → Asked (path_of kind) c)
+    → (calls : List Call) → AllByRecursion (λ c. IsGiven c.command × (is_of_one_frame (path_of kind) c.command ≡ true)) calls → AreAsked Asked kind (commands_of calls)
+as_asked Asked kind ask [] h = tt
+as_asked Asked kind ask (c ∷ cs) h = (((h.0.0, ask c.command), h.0.1), as_asked Asked kind ask cs h.1)
+
+-- the unit behind its calls
+abbrev last_of : Ended → Process → UnitOfWork
+last_of e s = run (start e.unit e.moment s) (commands_of e.calls)
 
 -- what rises with commands is so of the process that an ended unit leaves, and the process is sound
-module _ (Q : ℕ → Process → Type 0) (rises : Rises Q any) (n : ℕ) (e : Ended) (s : Process) (may : may_begin e.unit s ≡ true) (sound : IsSoundInFrames [] s) (given : AreGiven e) (h : Q n s) (r : IsReplay e s) where
+module _ (Q : ℕ → Held → Process → Type 0) (Asked : Option ActivityPath → Command → Type 0) (rises : Rises Q Asked) (n : ℕ) (e : Ended) (s : Process) (may : may_begin e.unit s ≡ true) (sound : IsSoundInFrames [] s)
+    (given : AreGiven e) (ask : (c : Command) → Asked (path_of e.unit) c) (h : Q n held.Never s) (r : IsReplay e s) where
   abbrev last : UnitOfWork
-  last = run (start e.unit e.moment s) (commands_of e.calls)
+  last = last_of e s
 
   last_is : replayed e s ≡ last
   last_is = ap (λ v. run v (commands_of e.calls)) (begun_starts e.unit e.moment s may)
@@ -122,17 +133,46 @@ module _ (Q : ℕ → Process → Type 0) (rises : Rises Q any) (n : ℕ) (e : E
   gone : (abended_by (stopping e.end last.end) last).frames ≡ []
   gone = frames_gone last (stopping e.end last.end) e.end (fit_behind_all (start e.unit e.moment s) (commands_of e.calls) refl) (ap (λ v. v.end) (sym end_is) ∙ r.end)
 
-  pub left_sound : IsSoundInFrames [] (finished e s).now.process × Q (n + length e.calls) (finished e s).now.process
+  pub left_sound : IsSoundInFrames [] (finished e s).now.process × Q (n + length e.calls) last.held (finished e s).now.process
   left_sound =
-      let x = left_by_abend Q any rises n e.unit e.moment s (commands_of e.calls) may sound h (as_asked e.unit e.calls given) (stopping e.end last.end) gone in
+      let x = left_by_abend Q Asked rises n e.unit e.moment s (commands_of e.calls) may sound h (as_asked Asked e.unit ask e.calls given) (stopping e.end last.end) gone in
       let many : length last.calls ≡ length e.calls = ap (λ v. length v.calls) (sym last_is) ∙ ap length r.calls in (
         subst (λ v. IsSoundInFrames [] v.now.process) (sym end_is) x.0,
-        subst (λ v. Q (n + length e.calls) v.now.process) (sym end_is) (subst (λ m. Q (n + m) (abended_by (stopping e.end last.end) last).now.process) many x.1),
+        subst (λ v. Q (n + length e.calls) last.held v.now.process) (sym end_is) (subst (λ m. Q (n + m) last.held (abended_by (stopping e.end last.end) last).now.process) many x.1),
       )
 
--- its key is the same
-pub left_key : (e : Ended) (s : Process) → may_begin e.unit s ≡ true → IsSoundInFrames [] s → AreGiven e → IsReplay e s → (finished e s).now.process.key ≡ s.key
-left_key e s may sound given r = (left_sound (of_key s.key) (key_rises s.key) 0 e s may sound given refl r).1
+module _ (e : Ended) (s : Process) (may : may_begin e.unit s ≡ true) (sound : IsSoundInFrames [] s) (given : AreGiven e) (r : IsReplay e s) where
+  of_own_key : IsSoundInFrames [] (finished e s).now.process × ((finished e s).now.process.key ≡ s.key)
+  of_own_key = left_sound (of_key s.key) any (key_rises s.key) 0 e s may sound given (λ c. tt) refl r
+
+  -- its process is sound, and its key is the same
+  pub stays_sound : IsSoundInFrames [] (finished e s).now.process
+  stays_sound = of_own_key.0
+
+  pub left_key : (finished e s).now.process.key ≡ s.key
+  left_key = of_own_key.1
+
+  -- ---- how far its numbers rise
+
+  module _ (g n : ℕ) (w : is_within g n s ≡ true) where
+    abbrev IsWithin : ℕ → Type 0
+    IsWithin h = is_within h (n + length e.calls) (finished e s).now.process ≡ true
+
+    raised : IsWithin (raised_by (last_of e s).held g)
+    raised = (left_sound (within g) any (within_rises g) n e s may sound given (λ c. tt) w r).1
+
+    not_raised : (key : Key) (path : ActivityPath) → e.unit ≡ unit.Activation key path → (last_of e s).held ≡ held.Never
+    not_raised key path same = (left_sound nothing in_frames nothing_rises 0 e s may sound given (λ c. subst (λ kind. in_frames (path_of kind) c) (sym same) tt) refl r).1
+
+    by_kind : (kind : UnitKind) → e.unit ≡ kind → IsWithin (g + definitions_by kind)
+    by_kind (unit.Request item key) same = within_more _ _ (g + 1) _ _ raised (raised_once (last_of e s).held g) (omega arith)
+    by_kind (unit.Activation key path) same =
+        within_more g _ (g + 0) _ _ (subst (λ h. IsWithin (raised_by h g)) (not_raised key path same) raised) (omega arith) (omega arith)
+    by_kind kind same = absurd (true≢false (sym may ∙ ap (λ k. may_begin k s) same))
+
+    -- the generation by the definitions of such a unit, and the numbers by its calls
+    pub left_within : IsWithin (g + definitions_by e.unit)
+    left_within = by_kind e.unit refl
 
 -- ---- the process of a unit
 
@@ -169,14 +209,10 @@ put_nothing (Abend code) s repo h = cc
 
 -- ---- a bound of the numbers of all processes
 
-pub within_all : (n m : ℕ) → n ≤ m → (repo : Processes) → list_all (is_within n) repo ≡ true → list_all (is_within m) repo ≡ true
-within_all n m l [] h = refl
-within_all n m l (s ∷ repo) h =
-    let a = and_parts (is_within n s) (list_all (is_within n) repo) h in and_from _ _ (within_more n m s a.0 l) (within_all n m l repo a.1)
-
--- with a process whose numbers rose by so many
-pub within_put : (n more : ℕ) (s : Process) (repo : Processes) → list_all (is_within n) repo ≡ true → is_within (n + more) s ≡ true → list_all (is_within (n + more)) (put s repo) ≡ true
-within_put n more s repo h own = put_all (is_within (n + more)) s repo (within_all n (n + more) (omega arith) repo h) own
+pub within_all : (g n h m : ℕ) → g ≤ h → n ≤ m → (repo : Processes) → list_all (is_within g n) repo ≡ true → list_all (is_within h m) repo ≡ true
+within_all g n h m j l [] w = refl
+within_all g n h m j l (s ∷ repo) w =
+    let a = and_parts (is_within g n s) (list_all (is_within g n) repo) w in and_from _ _ (within_more g n h m s a.0 j l) (within_all g n h m j l repo a.1)
 
 -- ---- the processes behind it
 
@@ -189,3 +225,25 @@ module _ (repo : Processes) (e : Ended) (key : Key) (of : key_of e.unit ≡ Some
 
   pub after_rollback : is_rollback e.end ≡ true → repo ≡ after repo e
   after_rollback h = sym (behind_is_of ∙ put_nothing e.end _ repo h)
+
+-- ---- how far the numbers of all processes rise
+
+module _ (g n : ℕ) (repo : Processes) (e : Ended) (w : list_all (is_within g n) repo ≡ true) where
+  -- by the definitions of such a unit, and by its calls
+  abbrev pub Risen : Processes → Type 0
+  Risen t = list_all (is_within (g + definitions_by e.unit) (n + length e.calls)) t ≡ true
+
+  pub still_within : Risen repo
+  still_within = within_all g n _ _ (omega arith) (omega arith) repo w
+
+  put_within : (end : End) (s : Process) → is_within (g + definitions_by e.unit) (n + length e.calls) s ≡ true → Risen (put_back end (Some s) repo)
+  put_within Commit s h = put_all _ s repo still_within h
+  put_within Rollback s h = still_within
+  put_within (Abend code) s h = put_all _ s repo still_within h
+
+  -- behind a unit that is played on the process of a key
+  pub played_within : (key : Key) → key_of e.unit ≡ Some key → is_played e.unit ≡ true → may_run e.unit e.moment repo ≡ true → AreSound repo → AreGiven e → IsReplay e (process_at key repo) → Risen (after repo e)
+  played_within key of played enabled sound given r =
+      let s = process_at key repo in
+      subst Risen (sym (behind_is_of repo e key of))
+      (put_within e.end _ (left_within e s (begins_so e.unit key e.moment repo of played enabled) (sound_at key repo sound) given r g n (within_at g n key repo w)))

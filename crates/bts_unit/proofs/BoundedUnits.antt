@@ -1,19 +1,23 @@
 -- How the numbers of a unit's process rise with its calls, and that a lone root stays one.
-use Rattle.std.proofs.Common.{◌≡◌, ℕ, ◌+◌, ◌<◌, ◌≤◌, true, false, List, [], ◌∷◌, length, Option, None, Some, refl, ◌∙◌, arith}
+use Rattle.std.proofs.Common.{◌≡◌, ℕ, ◌+◌, ◌<◌, ◌≤◌, true, false, List, [], ◌∷◌, length, Option, None, Some, refl, ◌∙◌, subst, arith}
 use Rattle.std.specs.List.{AllByRecursion}
+use Rattle.bts_names.specs.Answer.{left_by}
 use Rattle.bts_names.specs.declared.key.Key.{Key}
 use Rattle.bts_names.specs.Names.{Name, ActivityPath}
 use Rattle.bts_command.specs.declared.command.Command.{Command}
 use Rattle.bts_command.specs.declared.ended.UnitKind.{UnitKind}
 use Rattle.bts_tree.specs.Processes.{Process}
-use Rattle.bts_tree.specs.Soundness.{IsSoundInFrames, numbers_below}
-use Rattle.bts_rows.specs.Bounds.{is_lone, is_within}
+use Rattle.bts_tree.specs.Soundness.{IsSoundInFrames, is_within, numbers_below}
+use Rattle.bts_rows.specs.declared.held.Held.{Held}
+use Rattle.bts_rows.specs.declared.held.Held.TheVariants as held
+use Rattle.bts_rows.specs.Bounds.{is_lone, raised_by}
+use Rattle.bts_rows.specs.Rows.{request_in}
 use Rattle.bts_command.specs.Given.{IsGiven}
-use Rattle.bts_rows.proofs.Bounds.{lone_by_cause, lone_complete, within_below, within_by_cause, within_complete, within_generation, within_more}
-use Rattle.bts_rows.proofs.GrowthRows.{act_at_grows, request_in_grows}
+use Rattle.bts_rows.proofs.Bounds.{lone_by_cause, lone_complete, within_act, within_below, within_by_cause, within_complete, within_generation, within_more, within_request}
+use Rattle.bts_rows.proofs.GrowthRows.{act_at_grows, raised_once, request_in_grows}
 use Rattle.bts_unit.specs.Calls.{call, run}
 use Rattle.bts_unit.specs.Ends.{abended_whole}
-use Rattle.bts_unit.specs.Frames.{UnitOfWork, path_of, start}
+use Rattle.bts_unit.specs.Frames.{OpenFrame, UnitOfWork, path_of, start}
 use Rattle.bts_unit.specs.OneFrame.{is_of_one_frame, may_begin}
 use Rattle.bts_unit.specs.Replays.{top_path}
 use Rattle.bts_unit.specs.Soundness.{IsSoundLone, IsSoundWithin, makes_more_in}
@@ -22,55 +26,83 @@ use Rattle.bts_unit.proofs.Rising as rising
 
 -- ---- numbers
 
-abbrev pub within : ℕ → Process → Type 0
-within n s = is_within n s ≡ true
-
 abbrev pub any : Option ActivityPath → Command → Type 0
 any at c = Unit {0}
 
-pub within_rises : Rises within any
-within_rises = record {
-  later = λ n s h. within_more n (n + 1) s h (omega arith);
-  turns = λ n p why s h. within_by_cause p s why None n h;
-  completes = λ n p status code s h. within_complete p s status code n h;
-  acts = λ n p now s c a sound h. (act_at_grows (p ∷ []) s sound p now c).numbers n (n + 1) (omega arith) h;
-  requests = λ n held now s c a l sound h. (request_in_grows [] s sound held 1 now c l).numbers n (n + 1) (omega arith) h;
+module _ (g : ℕ) where
+  -- the generation is at most g before anything was acquired
+  abbrev pub within : ℕ → Held → Process → Type 0
+  within n h s = is_within (raised_by h g) n s ≡ true
+
+  pub within_rises : Rises within any
+  within_rises = record {
+    later = λ n h s k. within_more (raised_by h g) n (raised_by h g) (n + 1) s k (omega arith) (omega arith);
+    turns = λ n h p why s. within_by_cause p s why None (raised_by h g) n;
+    completes = λ n h p status code s. within_complete p s status code (raised_by h g) n;
+    acts = λ n h p now s c a sound. within_act (p ∷ []) s sound p now (raised_by h g) n c;
+    requests = λ n h now s c a l sound. within_request [] s sound h 1 now g n c l;
+    acquires = λ n h now s c before a l sound w k.
+        let x = left_by (s, h) (request_in h 1 now s c) in
+        within_more (raised_by h g) n (raised_by x.1 g) n before k ((request_in_grows [] s sound h 1 now c l).raised g) (omega arith);
+  }
+
+  module _ (n : ℕ) where
+    pub starts_within : (kind : UnitKind) (moment : ℕ) (s : Process) → may_begin kind s ≡ true → IsSoundInFrames [] s → is_within g n s ≡ true → IsSoundWithin g n (start kind moment s)
+    starts_within = rising.starts within any within_rises n
+
+    pub calls_rise : (u : UnitOfWork) (c : Command) → length u.frames ≤ 1 → IsGiven c → is_of_one_frame (top_path u.frames) c ≡ true
+        → IsSoundWithin g (n + length u.calls) u → IsSoundWithin g (n + length (call u c).1.calls) (call u c).1
+    calls_rise u c few given = rising.calls within any within_rises n u c few given tt
+
+    pub stops_within : (code : Name) (u : UnitOfWork) → IsSoundWithin g n u → IsSoundWithin g n (abended_whole code u)
+    stops_within = rising.stops within any within_rises n
+
+    -- ---- what they say of the process
+
+    pub unit_generation : (u : UnitOfWork) → IsSoundWithin g n u → u.now.process.generation ≤ raised_by u.held g
+    unit_generation u h = within_generation (raised_by u.held g) n u.now.process h.process.1
+
+    pub unit_below : (m : ℕ) (u : UnitOfWork) → IsSoundWithin g n u → n < m → numbers_below m u.now.process ≡ true
+    unit_below m u h l = within_below (raised_by u.held g) n m u.now.process h.process.1 l
+
+    pub unit_within : (u : UnitOfWork) → IsSoundWithin g n u → is_within (g + 1) n u.now.process ≡ true
+    unit_within u h = within_more (raised_by u.held g) n (g + 1) n u.now.process h.process.1 (raised_once u.held g) (omega arith)
+
+-- ---- an activation acquires nothing
+
+abbrev pub nothing : ℕ → Held → Process → Type 0
+nothing n h s = h ≡ held.Never
+
+abbrev pub in_frames : Option ActivityPath → Command → Type 0
+in_frames None c = ⊥
+in_frames (Some p) c = Unit {0}
+
+pub nothing_rises : Rises nothing in_frames
+nothing_rises = record {
+  later = λ n h s k. k;
+  turns = λ n h p why s k. k;
+  completes = λ n h p status code s k. k;
+  acts = λ n h p now s c a sound k. k;
+  requests = λ n h now s c a l sound k. absurd a;
+  acquires = λ n h now s c before a l sound w k. absurd a;
 }
-
-module _ (n : ℕ) where
-  pub starts_within : (kind : UnitKind) (moment : ℕ) (s : Process) → may_begin kind s ≡ true → IsSoundInFrames [] s → is_within n s ≡ true → IsSoundWithin n (start kind moment s)
-  starts_within = rising.starts within any within_rises n
-
-  pub calls_rise : (u : UnitOfWork) (c : Command) → length u.frames ≤ 1 → IsGiven c → is_of_one_frame (top_path u.frames) c ≡ true
-      → IsSoundWithin (n + length u.calls) u → IsSoundWithin (n + length (call u c).1.calls) (call u c).1
-  calls_rise u c few given = rising.calls within any within_rises n u c few given tt
-
-  pub stops_within : (code : Name) (u : UnitOfWork) → IsSoundWithin n u → IsSoundWithin n (abended_whole code u)
-  stops_within = rising.stops within any within_rises n
-
-  -- ---- what they say of the process
-
-  pub unit_generation : (u : UnitOfWork) → IsSoundWithin n u → u.now.process.generation ≤ n
-  unit_generation u h = within_generation n u.now.process h.process.1
-
-  pub unit_below : (m : ℕ) (u : UnitOfWork) → IsSoundWithin n u → n < m → numbers_below m u.now.process ≡ true
-  unit_below m u h l = within_below n m u.now.process h.process.1 l
 
 -- ---- a lone root
 
-abbrev pub lone : ℕ → Process → Type 0
-lone n s = is_lone s ≡ true
+abbrev pub lone : ℕ → Held → Process → Type 0
+lone n h s = is_lone s ≡ true
 
 abbrev pub makes_none : Option ActivityPath → Command → Type 0
 makes_none at c = makes_more_in at c ≡ false
 
 pub lone_rises : Rises lone makes_none
 lone_rises = record {
-  later = λ n s h. h;
-  turns = λ n p why s h. lone_by_cause p s why None h;
-  completes = λ n p status code s h. lone_complete p s status code h;
-  acts = λ n p now s c none sound h. (act_at_grows (p ∷ []) s sound p now c).lone none h;
-  requests = λ n held now s c none l sound h. (request_in_grows [] s sound held 1 now c l).lone refl h;
+  later = λ n h s k. k;
+  turns = λ n h p why s. lone_by_cause p s why None;
+  completes = λ n h p status code s. lone_complete p s status code;
+  acts = λ n h p now s c none sound k. (act_at_grows (p ∷ []) s sound p now c).lone none k;
+  requests = λ n h now s c none l sound k. (request_in_grows [] s sound h 1 now c l).process.lone refl k;
+  acquires = λ n h now s c before none l sound w k. k;
 }
 
 pub starts_lone : (kind : UnitKind) (moment : ℕ) (s : Process) → may_begin kind s ≡ true → IsSoundInFrames [] s → is_lone s ≡ true → IsSoundLone (start kind moment s)
@@ -86,16 +118,17 @@ stops_lone = rising.stops lone makes_none lone_rises 0
 -- ---- the key
 
 module _ (key : Key) where
-  abbrev pub of_key : ℕ → Process → Type 0
-  of_key n s = s.key ≡ key
+  abbrev pub of_key : ℕ → Held → Process → Type 0
+  of_key n h s = s.key ≡ key
 
   pub key_rises : Rises of_key any
   key_rises = record {
-    later = λ n s h. h;
-    turns = λ n p why s h. h;
-    completes = λ n p status code s h. h;
-    acts = λ n p now s c a sound h. (act_at_grows (p ∷ []) s sound p now c).key ∙ h;
-    requests = λ n held now s c a l sound h. (request_in_grows [] s sound held 1 now c l).key ∙ h;
+    later = λ n h s k. k;
+    turns = λ n h p why s k. k;
+    completes = λ n h p status code s k. k;
+    acts = λ n h p now s c a sound k. (act_at_grows (p ∷ []) s sound p now c).key ∙ k;
+    requests = λ n h now s c a l sound k. (request_in_grows [] s sound h 1 now c l).process.key ∙ k;
+    acquires = λ n h now s c before a l sound w k. k;
   }
 
 -- ---- the process that a unit leaves behind commands of one frame
@@ -109,15 +142,20 @@ abbrev pub abended_by : Option Name → UnitOfWork → UnitOfWork
 abended_by None u = u
 abended_by (Some code) u = abended_whole code u
 
-module _ (Q : ℕ → Process → Type 0) (Asked : Option ActivityPath → Command → Type 0) (rises : Rises Q Asked) (n : ℕ)
-    (kind : UnitKind) (moment : ℕ) (s : Process) (cs : List Command) (may : may_begin kind s ≡ true) (sound : IsSoundInFrames [] s) (h : Q n s) (asked : AreAsked Asked kind cs) where
+held_case : (code : Name) (u : UnitOfWork) (fs : List OpenFrame) → let v : UnitOfWork = record u { frames = fs } in (abended_whole code v).held ≡ u.held
+held_case code u [] = refl
+held_case code u (f ∷ fs) = refl
+
+module _ (Q : ℕ → Held → Process → Type 0) (Asked : Option ActivityPath → Command → Type 0) (rises : Rises Q Asked) (n : ℕ)
+    (kind : UnitKind) (moment : ℕ) (s : Process) (cs : List Command) (may : may_begin kind s ≡ true) (sound : IsSoundInFrames [] s) (h : Q n held.Never s) (asked : AreAsked Asked kind cs) where
   abbrev behind : UnitOfWork
   behind = run (start kind moment s) cs
 
   abbrev last : ℕ
   last = n + length behind.calls
 
-  pub left_by_abend : (o : Option Name) → (abended_by o behind).frames ≡ [] → IsSoundInFrames [] (abended_by o behind).now.process × Q last (abended_by o behind).now.process
+  pub left_by_abend : (o : Option Name) → (abended_by o behind).frames ≡ [] → IsSoundInFrames [] (abended_by o behind).now.process × Q last behind.held (abended_by o behind).now.process
   left_by_abend None e = rising.behind_end Q Asked rises last behind e (rising.runs Q Asked rises n kind moment s cs may sound h asked)
   left_by_abend (Some code) e =
-      rising.behind_end Q Asked rises last (abended_whole code behind) e (rising.stops Q Asked rises last code behind (rising.runs Q Asked rises n kind moment s cs may sound h asked))
+      let x = rising.behind_end Q Asked rises last (abended_whole code behind) e (rising.stops Q Asked rises last code behind (rising.runs Q Asked rises n kind moment s cs may sound h asked)) in
+      (x.0, subst (λ y. Q last y (abended_whole code behind).now.process) (held_case code behind behind.frames) x.1)

@@ -6,6 +6,7 @@ use Rattle.bts_command.specs.Given.{IsGiven}
 use Rattle.bts_command.specs.declared.command.Call.{Call}
 use Rattle.bts_command.specs.declared.command.Command.{Command}
 use Rattle.bts_tree.specs.Soundness.{numbers_below}
+use Rattle.bts_rows.proofs.GrowthRows.{raised_once}
 use Rattle.bts_act.specs.Early.{none_early}
 use Rattle.bts_unit.specs.Calls.{call}
 use Rattle.bts_unit.specs.Frames.{UnitOfWork, is_there_at}
@@ -26,14 +27,14 @@ pub record IsCallable (u : UnitOfWork) (c : Command) : Type 0 where
   pub one_frame : is_of_one_frame (top_path u.frames) c ≡ true
 
 -- a sound unit whose numbers end before the last one has all of it
-pub callable_within : (n : ℕ) (u : UnitOfWork) (c : Command) → IsSoundUnit u → IsSoundWithin n u → n < 2 ^ 64 - 1
+pub callable_within : (g n : ℕ) (u : UnitOfWork) (c : Command) → IsSoundUnit u → IsSoundWithin g n u → g + 1 < 2 ^ 64 - 1 → n < 2 ^ 64 - 1
     → is_none u.end ≡ true → IsGiven c → is_of_one_frame (top_path u.frames) c ≡ true → IsCallable u c
-callable_within n u c sound within far is_open given one = record {
+callable_within g n u c sound within near far is_open given one = record {
   open_still = is_open;
   there = sound_unit_there u sound;
   late = sound_unit_late u sound;
-  numbers = unit_below n (2 ^ 64 - 1) u within far;
-  generation = let most : u.now.process.generation ≤ n = unit_generation n u within in omega (arith, most, far);
+  numbers = unit_below g n (2 ^ 64 - 1) u within far;
+  generation = let most = unit_generation g n u within in let once = raised_once u.held g in omega (arith, most, once, near);
   given = given;
   one_frame = one;
 }

@@ -23,6 +23,7 @@ use Rattle.bts_tree.specs.Activities.{by_cause, has_entries, is_dormant, is_init
 use Rattle.bts_tree.specs.Modes.{waits}
 use Rattle.bts_tree.specs.Processes.{Process, activity_at, complete, edited}
 use Rattle.bts_rows.specs.declared.held.Held.{Held}
+use Rattle.bts_rows.specs.declared.held.Held.TheVariants as held
 use Rattle.bts_rows.specs.FamilyRows.{resets}
 use Rattle.bts_rows.specs.Rows.{act_at, answer, request_in}
 use Rattle.bts_rows.specs.Targets.{Here}
@@ -36,16 +37,20 @@ use Rattle.bts_unit.specs.Standings.{Standing, behind, moved}
 use Rattle.bts_unit.proofs.InFrames.{of_activity, out_of_frame}
 use Rattle.bts_unit.proofs.Shown.{behind_process, opens_none}
 
--- what is said of processes in open frames, with a number that may be that of the commands so far: it holds behind
--- one command more of those that are asked for, where a frame opens, where its activity waits and where it ends
-pub record Carries (P : ℕ → List ActivityPath → Process → Type 0) (Asked : Option ActivityPath → Command → Type 0) : Type 0 where
-  pub later : (n : ℕ) (frames : List ActivityPath) (s : Process) → P n frames s → P (n + 1) frames s
-  pub opens : (n : ℕ) (p : ActivityPath) (s : Process) → P n [] s → may_open (Some p) s ≡ true → P n (p ∷ []) (activated p s)
-  pub rests : (n : ℕ) (p : ActivityPath) (s : Process) → P n (p ∷ []) s → P n [] (edited p (by_cause waits None) s)
-  pub finishes : (n : ℕ) (p : ActivityPath) (s : Process) → P n (p ∷ []) s → P n [] (complete p status.Normal None s)
-  pub abends : (n : ℕ) (p : ActivityPath) (code : Name) (s : Process) → P n [] s → may_open (Some p) s ≡ true → P n [] (complete p status.Abend (Some code) s)
-  pub acts : (n : ℕ) (p : ActivityPath) (now : ℕ) (s : Process) (c : Command) → Asked (Some p) c → P n (p ∷ []) s → P (n + 1) (p ∷ []) (left_by s (act_at p now s c))
-  pub requests : (n : ℕ) (held : Held) (now : ℕ) (s : Process) (c : Command) → Asked None c → resets c ≡ false → P n [] s → P (n + 1) [] (left_by (s, held) (request_in held 1 now s c)).0
+-- what is said of processes in open frames, with a number that may be that of the commands so far, and with what is held:
+-- it holds behind one command more of those that are asked for, where a frame opens, where its activity waits and where
+-- it ends; and what was said before a request acquired something is so with that held
+pub record Carries (P : ℕ → Held → List ActivityPath → Process → Type 0) (Asked : Option ActivityPath → Command → Type 0) : Type 0 where
+  pub later : (n : ℕ) (h : Held) (frames : List ActivityPath) (s : Process) → P n h frames s → P (n + 1) h frames s
+  pub opens : (n : ℕ) (h : Held) (p : ActivityPath) (s : Process) → P n h [] s → may_open (Some p) s ≡ true → P n h (p ∷ []) (activated p s)
+  pub rests : (n : ℕ) (h : Held) (p : ActivityPath) (s : Process) → P n h (p ∷ []) s → P n h [] (edited p (by_cause waits None) s)
+  pub finishes : (n : ℕ) (h : Held) (p : ActivityPath) (s : Process) → P n h (p ∷ []) s → P n h [] (complete p status.Normal None s)
+  pub abends : (n : ℕ) (h : Held) (p : ActivityPath) (code : Name) (s : Process) → P n h [] s → may_open (Some p) s ≡ true → P n h [] (complete p status.Abend (Some code) s)
+  pub acts : (n : ℕ) (h : Held) (p : ActivityPath) (now : ℕ) (s : Process) (c : Command) → Asked (Some p) c → P n h (p ∷ []) s → P (n + 1) h (p ∷ []) (left_by s (act_at p now s c))
+  pub requests : (n : ℕ) (h : Held) (now : ℕ) (s : Process) (c : Command) → Asked None c → resets c ≡ false → P n h [] s
+      → let x = left_by (s, h) (request_in h 1 now s c) in P (n + 1) x.1 [] x.0
+  pub acquires : (n : ℕ) (h : Held) (now : ℕ) (s : Process) (c : Command) (frames : List ActivityPath) (before : Process) → Asked None c → resets c ≡ false → P n h [] s → P n h frames before
+      → P n (left_by (s, h) (request_in h 1 now s c)).1 frames before
 
 -- ---- frames
 
@@ -95,67 +100,72 @@ past_four_by false b h = refl
 past_four : (c : Command) → is_of_requests c ≡ false → nat_le (command_number c) 4 ≡ false
 past_four c h = past_four_by (nat_le (command_number c) 4) (is_none (opens_on c) && names_acquired c) h
 
--- the process that an answer leaves
-abbrev process_by : Process → Held → Answer (Process × Held) → Process
-process_by s h a = (left_by (s, h) a).0
+-- the process that an answer leaves, and what is held then
+abbrev left_with : Process → Held → Answer (Process × Held) → Process × Held
+left_with s h a = left_by (s, h) a
 
-left_of : (h : Held) (s : Process) (a : Answer Process) → process_by s h (mapped (λ x. (x, h)) a) ≡ left_by s a
+left_of : (h : Held) (s : Process) (a : Answer Process) → left_with s h (mapped (λ x. (x, h)) a) ≡ (left_by s a, h)
 left_of h s (refused r why) = refl
 left_of h s (done v x) = refl
 
-module _ (P : ℕ → List ActivityPath → Process → Type 0) (Asked : Option ActivityPath → Command → Type 0) (carries : Carries P Asked) where
+module _ (P : ℕ → Held → List ActivityPath → Process → Type 0) (Asked : Option ActivityPath → Command → Type 0) (carries : Carries P Asked) where
+  -- it holds of a unit
+  abbrev pub HoldsAt : ℕ → UnitOfWork → Type 0
+  HoldsAt n u = Holds (P n u.held) u
+
   -- ---- one more
 
-  later_one : (n : ℕ) (at : Option ActivityPath) (below : List OpenFrame) (o : Option Standing) → IsKept (P n) at below o → IsKept (P (n + 1)) at below o
-  later_one n at below None h = h
-  later_one n at below (Some before) h = (carries.later n (paths_of below) before.process h.0, h.1)
+  later_one : (n : ℕ) (h : Held) (at : Option ActivityPath) (below : List OpenFrame) (o : Option Standing) → IsKept (P n h) at below o → IsKept (P (n + 1) h) at below o
+  later_one n h at below None k = k
+  later_one n h at below (Some before) k = (carries.later n h (paths_of below) before.process k.0, k.1)
 
-  later_kept : (n : ℕ) (fs : List OpenFrame) → AreKept (P n) fs → AreKept (P (n + 1)) fs
-  later_kept n [] h = tt
-  later_kept n (f ∷ fs) h = (later_one n f.at fs f.kept h.0, later_kept n fs h.1)
+  later_kept : (n : ℕ) (h : Held) (fs : List OpenFrame) → AreKept (P n h) fs → AreKept (P (n + 1) h) fs
+  later_kept n h [] k = tt
+  later_kept n h (f ∷ fs) k = (later_one n h f.at fs f.kept k.0, later_kept n h fs k.1)
 
-  pub later : (n : ℕ) (u : UnitOfWork) → Holds (P n) u → Holds (P (n + 1)) u
-  later n u h = record { process = carries.later n (open_paths u) u.now.process h.process; kept = later_kept n u.frames h.kept }
+  pub later : (n : ℕ) (u : UnitOfWork) → HoldsAt n u → HoldsAt (n + 1) u
+  later n u h = record { process = carries.later n u.held (open_paths u) u.now.process h.process; kept = later_kept n u.held u.frames h.kept }
 
   -- ---- the beginning
 
-  begins_case : (n : ℕ) (at : Option ActivityPath) (s : Process) → may_open at s ≡ true → P n [] s → P n (paths_of (first_frame at s ∷ [])) (opened_at at s)
-  begins_case n None s m h = h
-  begins_case n (Some p) s m h = carries.opens n p s h m
+  begins_case : (n : ℕ) (h : Held) (at : Option ActivityPath) (s : Process) → may_open at s ≡ true → P n h [] s → P n h (paths_of (first_frame at s ∷ [])) (opened_at at s)
+  begins_case n h None s m p = p
+  begins_case n h (Some p) s m k = carries.opens n h p s k m
 
-  pub starts : (n : ℕ) (kind : UnitKind) (moment : ℕ) (s : Process) → may_begin kind s ≡ true → P n [] s → Holds (P n) (start kind moment s)
+  pub starts : (n : ℕ) (kind : UnitKind) (moment : ℕ) (s : Process) → may_begin kind s ≡ true → P n held.Never [] s → HoldsAt n (start kind moment s)
   starts n kind moment s b h =
       let m = begins_open kind s b in
-      record { process = begins_case n (path_of kind) s m h; kept = ((h, m), tt) }
+      record { process = begins_case n held.Never (path_of kind) s m h; kept = ((h, m), tt) }
 
   -- ---- ends
 
-  abended_case : (n : ℕ) (at : Option ActivityPath) (code : Name) (o : Option Standing) (now : Standing) → IsKept (P n) at [] o → P n [] (completed_by_abend at code (unwrap_or o now)).process
+  abended_case : (n : ℕ) (h : Held) (at : Option ActivityPath) (code : Name) (o : Option Standing) (now : Standing) → IsKept (P n h) at [] o
+      → P n h [] (completed_by_abend at code (unwrap_or o now)).process
   unfolding moved
-  abended_case n at code None now h = cc
-  abended_case n None code (Some before) now h = h.0
-  abended_case n (Some p) code (Some before) now h = carries.abends n p code before.process h.0 h.1
+  abended_case n h at code None now k = cc
+  abended_case n h None code (Some before) now k = k.0
+  abended_case n h (Some p) code (Some before) now k = carries.abends n h p code before.process k.0 k.1
 
-  whole_kept : (n : ℕ) (f : OpenFrame) (fs : List OpenFrame) → AreKept (P n) (f ∷ fs) → let g = first_of f fs in IsKept (P n) g.at [] g.kept
-  whole_kept n f [] h = h.0
-  whole_kept n f (g ∷ fs) h = whole_kept n g fs h.1
+  whole_kept : (n : ℕ) (h : Held) (f : OpenFrame) (fs : List OpenFrame) → AreKept (P n h) (f ∷ fs) → let g = first_of f fs in IsKept (P n h) g.at [] g.kept
+  whole_kept n h f [] k = k.0
+  whole_kept n h f (g ∷ fs) k = whole_kept n h g fs k.1
 
-  stops_case : (n : ℕ) (code : Name) (u : UnitOfWork) (fs : List OpenFrame) → let v : UnitOfWork = record u { frames = fs } in Holds (P n) v → Holds (P n) (abended_whole code v)
+  stops_case : (n : ℕ) (code : Name) (u : UnitOfWork) (fs : List OpenFrame) → let v : UnitOfWork = record u { frames = fs } in HoldsAt n v → HoldsAt n (abended_whole code v)
   stops_case n code u [] h = h
-  stops_case n code u (f ∷ fs) h = let g = first_of f fs in record { process = abended_case n g.at code g.kept u.now (whole_kept n f fs h.kept); kept = tt }
+  stops_case n code u (f ∷ fs) h = let g = first_of f fs in record { process = abended_case n u.held g.at code g.kept u.now (whole_kept n u.held f fs h.kept); kept = tt }
 
-  pub stops : (n : ℕ) (code : Name) (u : UnitOfWork) → Holds (P n) u → Holds (P n) (abended_whole code u)
+  pub stops : (n : ℕ) (code : Name) (u : UnitOfWork) → HoldsAt n u → HoldsAt n (abended_whole code u)
   stops n code u h = stops_case n code u u.frames h
 
   -- the process of a unit that has ended
-  pub behind_end : (n : ℕ) (u : UnitOfWork) → u.frames ≡ [] → Holds (P n) u → P n [] u.now.process
-  behind_end n u e h = subst (λ fs. P n (paths_of fs) u.now.process) e h.process
+  pub behind_end : (n : ℕ) (u : UnitOfWork) → u.frames ≡ [] → HoldsAt n u → P n u.held [] u.now.process
+  behind_end n u e h = subst (λ fs. P n u.held (paths_of fs) u.now.process) e h.process
 
   -- ---- one command in the one frame
 
   -- so it is in the frame of this activity, or in a request's first one, behind these calls
   record In (n : ℕ) (at : Option ActivityPath) (made : List Call) (u : UnitOfWork) : Type 0 where
-    holds : Holds (P n) u
+    holds : HoldsAt n u
     stands : StandsIn at u.frames
     calls : u.calls ≡ made
 
@@ -166,33 +176,33 @@ module _ (P : ℕ → List ActivityPath → Process → Type 0) (Asked : Option 
     abbrev one : UnitOfWork
     one = record u { frames = f ∷ [] }
 
-    module _ (n : ℕ) (process : P n (option_to_list f.at) u.now.process) (kept : IsKept (P n) f.at [] f.kept) where
+    module _ (n : ℕ) (process : P n u.held (option_to_list f.at) u.now.process) (kept : IsKept (P n u.held) f.at [] f.kept) where
       stays : Own n one
-      stays = record { holds = record { process = subst (λ ps. P n ps u.now.process) (sym (one_path f)) process; kept = (kept, tt) }; stands = refl; calls = refl }
+      stays = record { holds = record { process = subst (λ ps. P n u.held ps u.now.process) (sym (one_path f)) process; kept = (kept, tt) }; stands = refl; calls = refl }
 
-      closes : (e : End) (now : Standing) → P n [] now.process → Own n (closed e [] now one)
+      closes : (e : End) (now : Standing) → P n u.held [] now.process → Own n (closed e [] now one)
       closes e now h = record { holds = record { process = h; kept = tt }; stands = tt; calls = refl }
 
       abends : (code : Name) → Own n (abended f [] code one)
-      abends code = closes (Abend code) (completed_by_abend f.at code (unwrap_or f.kept u.now)) (abended_case n f.at code f.kept u.now kept)
+      abends code = closes (Abend code) (completed_by_abend f.at code (unwrap_or f.kept u.now)) (abended_case n u.held f.at code f.kept u.now kept)
 
-      leaves : (p : ActivityPath) (how : Leaving) → P n (p ∷ []) u.now.process → Own n (left p how f [] one)
+      leaves : (p : ActivityPath) (how : Leaving) → P n u.held (p ∷ []) u.now.process → Own n (left p how f [] one)
       unfolding moved
-      leaves p leaving.Dormant h = closes Commit _ (carries.rests n p u.now.process h)
-      leaves p leaving.Complete h = closes Commit _ (carries.finishes n p u.now.process h)
+      leaves p leaving.Dormant h = closes Commit _ (carries.rests n u.held p u.now.process h)
+      leaves p leaving.Complete h = closes Commit _ (carries.finishes n u.held p u.now.process h)
       leaves p (leaving.Abended code) h = abends code
 
-      returns_at : (x : Bool) (p : ActivityPath) (o : Option Activity) → P n (p ∷ []) u.now.process → Own n (returned_at x p f [] one o).1
+      returns_at : (x : Bool) (p : ActivityPath) (o : Option Activity) → P n u.held (p ∷ []) u.now.process → Own n (returned_at x p f [] one o).1
       returns_at x p None h = stays
       returns_at x p (Some a) h = leaves p (leaving_of x f.retrieved a.pool) h
 
-      returns : (x : Bool) (at : Option ActivityPath) → P n (option_to_list at) u.now.process → Own n (returned x at f [] one).1
+      returns : (x : Bool) (at : Option ActivityPath) → P n u.held (option_to_list at) u.now.process → Own n (returned x at f [] one).1
       returns true None h = stays
       returns false None h = closes Commit u.now h
       returns true (Some p) h = returns_at true p (activity_at p u.now.process) h
       returns false (Some p) h = returns_at false p (activity_at p u.now.process) h
 
-      kept_case : (at : Option ActivityPath) (o : Option Standing) → IsKept (P n) at [] o → P n [] (unwrap_or o u.now).process
+      kept_case : (at : Option ActivityPath) (o : Option Standing) → IsKept (P n u.held) at [] o → P n u.held [] (unwrap_or o u.now).process
       kept_case at None h = cc
       kept_case at (Some before) h = h.0
 
@@ -202,49 +212,76 @@ module _ (P : ℕ → List ActivityPath → Process → Type 0) (Asked : Option 
 
     -- ---- by its row
 
-    module _ (n : ℕ) (c : Command) (process : P n (option_to_list f.at) u.now.process) (kept : IsKept (P n) f.at [] f.kept) where
+    module _ (n : ℕ) (c : Command) (process : P n u.held (option_to_list f.at) u.now.process) (kept : IsKept (P n u.held) f.at [] f.kept) where
       abbrev answer_at : Option ActivityPath → Answer (Process × Held)
       answer_at at = answer (here u.held at) u.held 1 u.moment u.now.process c
 
       abbrev marked : OpenFrame
       marked = record f { retrieved = f.retrieved || is_retrieval c }
 
-      row_case : (spot : Here) (a : Answer (Process × Held)) → opens_on c ≡ None → P (n + 1) (option_to_list f.at) (process_by u.now.process u.held a) → Own (n + 1) (answered spot c f [] one a).1
-      row_case spot (refused r why) none h = stays (n + 1) h (later_one n f.at [] f.kept kept)
+      -- what is said behind an answer, of the process and of what the frame kept
+      record Behind (at : Option ActivityPath) (x : Process × Held) : Type 0 where
+        process : P (n + 1) x.1 (option_to_list at) x.0
+        kept : IsKept (P (n + 1) x.1) at [] f.kept
+
+      row_case : (spot : Here) (a : Answer (Process × Held)) → opens_on c ≡ None → Behind f.at (left_with u.now.process u.held a) → Own (n + 1) (answered spot c f [] one a).1
+      row_case spot (refused r why) none h = stays (n + 1) h.process h.kept
       row_case spot (done v x) none h =
           subst (λ o. Own (n + 1) (opened_by spot o (says_ran v) (stepped c f [] one x))) (sym none)
           (record {
             holds = record {
-              process = subst (λ ps. P (n + 1) ps (behind (is_retrieval c) u.now x.0).process) (sym (one_path marked)) (subst (P (n + 1) (option_to_list f.at)) (sym (behind_process (is_retrieval c) u.now x.0)) h);
-              kept = (later_one n f.at [] f.kept kept, tt);
+              process = subst (λ ps. P (n + 1) x.1 ps (behind (is_retrieval c) u.now x.0).process) (sym (one_path marked)) (subst (P (n + 1) x.1 (option_to_list f.at)) (sym (behind_process (is_retrieval c) u.now x.0)) h.process);
+              kept = (h.kept, tt);
             };
             stands = refl;
             calls = refl;
           })
 
-      refused_case : (p : ActivityPath) (a : Answer (Process × Held)) → a ≡ refused resp.Invreq reason.Place → P n (p ∷ []) u.now.process → P (n + 1) (p ∷ []) (process_by u.now.process u.held a)
-      refused_case p a e h = subst (λ x. P (n + 1) (p ∷ []) (process_by u.now.process u.held x)) (sym e) (carries.later n (p ∷ []) u.now.process h)
+      -- in an activity's frame nothing is acquired
 
-      act_case : (p : ActivityPath) (b : Bool) → is_of_requests c ≡ b → Asked (Some p) c → is_of_one_frame (Some p) c ≡ true → P n (p ∷ []) u.now.process → P (n + 1) (p ∷ []) (process_by u.now.process u.held (answer_at (Some p)))
-      act_case p true e asked i h = refused_case p (answer_at (Some p)) (out_of_frame p u.held 1 u.moment u.now.process c e) h
-      act_case p false e asked i h =
-          subst (λ x. P (n + 1) (p ∷ []) (process_by u.now.process u.held x)) (sym (of_activity p u.held 1 u.moment u.now.process c (past_four c e) (from_fourteen (command_number c) (is_of_requests c) _ refl i e)))
-          (subst (P (n + 1) (p ∷ [])) (sym (left_of u.held u.now.process (act_at p u.moment u.now.process c))) (carries.acts n p u.moment u.now.process c asked h))
+      kept_in : (p : ActivityPath) → IsKept (P n u.held) (Some p) [] f.kept → IsKept (P (n + 1) u.held) (Some p) [] f.kept
+      kept_in p k = later_one n u.held (Some p) [] f.kept k
 
-      answer_case : (at : Option ActivityPath) → Asked at c → is_of_one_frame at c ≡ true → P n (option_to_list at) u.now.process → P (n + 1) (option_to_list at) (process_by u.now.process u.held (answer_at at))
+      refused_case : (p : ActivityPath) (a : Answer (Process × Held)) → a ≡ refused resp.Invreq reason.Place → P n u.held (p ∷ []) u.now.process → IsKept (P n u.held) (Some p) [] f.kept
+          → Behind (Some p) (left_with u.now.process u.held a)
+      refused_case p a e h k =
+          subst (λ x. Behind (Some p) (left_with u.now.process u.held x)) (sym e)
+          (record { process = carries.later n u.held (p ∷ []) u.now.process h; kept = kept_in p k })
+
+      act_case : (p : ActivityPath) (b : Bool) → is_of_requests c ≡ b → Asked (Some p) c → is_of_one_frame (Some p) c ≡ true → P n u.held (p ∷ []) u.now.process → IsKept (P n u.held) (Some p) [] f.kept
+          → Behind (Some p) (left_with u.now.process u.held (answer_at (Some p)))
+      act_case p true e asked i h k = refused_case p (answer_at (Some p)) (out_of_frame p u.held 1 u.moment u.now.process c e) h k
+      act_case p false e asked i h k =
+          subst (λ x. Behind (Some p) (left_with u.now.process u.held x)) (sym (of_activity p u.held 1 u.moment u.now.process c (past_four c e) (from_fourteen (command_number c) (is_of_requests c) _ refl i e)))
+          (subst (Behind (Some p)) (sym (left_of u.held u.now.process (act_at p u.moment u.now.process c)))
+          (record { process = carries.acts n u.held p u.moment u.now.process c asked h; kept = kept_in p k }))
+
+      -- in a request's first frame
+
+      acquired_case : (o : Option Standing) → Asked None c → resets c ≡ false → P n u.held [] u.now.process → IsKept (P n u.held) None [] o
+          → IsKept (P (n + 1) (left_with u.now.process u.held (request_in u.held 1 u.moment u.now.process c)).1) None [] o
+      acquired_case None asked l h k = k
+      acquired_case (Some before) asked l h k =
+          let now = (left_with u.now.process u.held (request_in u.held 1 u.moment u.now.process c)).1 in
+          (carries.later n now [] before.process (carries.acquires n u.held u.moment u.now.process c [] before.process asked l h k.0), k.1)
+
+      answer_case : (at : Option ActivityPath) → Asked at c → is_of_one_frame at c ≡ true → P n u.held (option_to_list at) u.now.process → IsKept (P n u.held) at [] f.kept
+          → Behind at (left_with u.now.process u.held (answer_at at))
       unfolding answer
-      answer_case None asked i h = carries.requests n u.held u.moment u.now.process c asked (no_reset (is_none (opens_on c)) (resets c) i) h
-      answer_case (Some p) asked i h = act_case p (is_of_requests c) refl asked i h
+      answer_case None asked i h k =
+          let l = no_reset (is_none (opens_on c)) (resets c) i in
+          record { process = carries.requests n u.held u.moment u.now.process c asked l h; kept = acquired_case f.kept asked l h k }
+      answer_case (Some p) asked i h k = act_case p (is_of_requests c) refl asked i h k
 
       by_row : Asked f.at c → is_of_one_frame f.at c ≡ true → Own (n + 1) (done_in f [] one c).1
-      by_row asked i = row_case (here u.held f.at) (answer_at f.at) (opens_none f.at c i) (answer_case f.at asked i process)
+      by_row asked i = row_case (here u.held f.at) (answer_at f.at) (opens_none f.at c i) (answer_case f.at asked i process kept)
 
     -- ---- each command
 
     raised : (n : ℕ) (v : UnitOfWork) → Own n v → Own (n + 1) v
     raised n v h = record { holds = later n v h.holds; stands = h.stands; calls = h.calls }
 
-    called : (n : ℕ) (c : Command) → Asked f.at c → is_of_one_frame f.at c ≡ true → P n (option_to_list f.at) u.now.process → IsKept (P n) f.at [] f.kept → Own (n + 1) (called_in f [] one c).1
+    called : (n : ℕ) (c : Command) → Asked f.at c → is_of_one_frame f.at c ≡ true → P n u.held (option_to_list f.at) u.now.process → IsKept (P n u.held) f.at [] f.kept → Own (n + 1) (called_in f [] one c).1
     unfolding called_in
     called n (command.Return x) asked i h k = raised n _ (returns n h k x f.at h)
     called n (command.Abend code) asked i h k = raised n _ (abends n h k code)
@@ -255,7 +292,7 @@ module _ (P : ℕ → List ActivityPath → Process → Type 0) (Asked : Option 
 
   -- behind the calls of a unit
   abbrev pub Counted : ℕ → UnitOfWork → Type 0
-  Counted n u = Holds (P (n + length u.calls)) u
+  Counted n u = HoldsAt (n + length u.calls) u
 
   -- so it is where one frame is open at most
   abbrev CountedIn : ℕ → Option ActivityPath → UnitOfWork → Type 0
@@ -270,8 +307,8 @@ module _ (P : ℕ → List ActivityPath → Process → Type 0) (Asked : Option 
   called_case n at c u (f ∷ []) asked i h =
       let may : Asked f.at c × (is_of_one_frame f.at c ≡ true) = subst (λ p. Asked p c × (is_of_one_frame p c ≡ true)) (sym h.1) (asked, i) in
       let x = called_in f [] (one u f) c in
-      let behind = called u f (n + length u.calls) c may.0 may.1 (subst (λ ps. P (n + length u.calls) ps u.now.process) (one_path f) h.0.process) h.0.kept.0 in
-      let counted = subst (λ m. Holds (P m) x.1) (one_more n u.calls x.1.calls (record { command = c; reply = x.0 }) behind.calls) behind.holds in
+      let behind = called u f (n + length u.calls) c may.0 may.1 (subst (λ ps. P (n + length u.calls) u.held ps u.now.process) (one_path f) h.0.process) h.0.kept.0 in
+      let counted = subst (λ m. HoldsAt m x.1) (one_more n u.calls x.1.calls (record { command = c; reply = x.0 }) behind.calls) behind.holds in
       (record { process = counted.process; kept = counted.kept }, subst (λ p. StandsIn p x.1.frames) h.1 behind.stands)
   called_case n at c u (f ∷ g ∷ fs) asked i h = absurd h.1
 
@@ -302,7 +339,7 @@ module _ (P : ℕ → List ActivityPath → Process → Type 0) (Asked : Option 
   begun n = omega arith
 
   -- a unit that begins with n is with n and the number of its calls behind commands
-  pub runs : (n : ℕ) (kind : UnitKind) (moment : ℕ) (s : Process) (cs : List Command) → may_begin kind s ≡ true → P n [] s
+  pub runs : (n : ℕ) (kind : UnitKind) (moment : ℕ) (s : Process) (cs : List Command) → may_begin kind s ≡ true → P n held.Never [] s
       → AllByRecursion (λ c. Asked (path_of kind) c × (is_of_one_frame (path_of kind) c ≡ true)) cs → Counted n (run (start kind moment s) cs)
   runs n kind moment s cs b h a =
-      (runs_in n (path_of kind) cs (start kind moment s) a (subst (λ m. Holds (P m) (start kind moment s)) (begun n) (starts n kind moment s b h), refl)).0
+      (runs_in n (path_of kind) cs (start kind moment s) a (subst (λ m. HoldsAt m (start kind moment s)) (begun n) (starts n kind moment s b h), refl)).0

@@ -68,7 +68,7 @@ module _ (u : UnitOfWork) (c : Call) (cs : List Call) (can : CanRepeat u (c ∷ 
   in_frame h = subst (λ at. is_of_one_frame at c.command ≡ true) (sym (open_frames u.frames can.at can.stands h)) can.given.0.1
 
   pub asked : is_some (top_frame u.frames) ≡ true → is_none u.end ≡ true → IsCallable u c.command
-  asked h o = callable_within (2 ^ 63 + length u.calls) u c.command can.sound can.within far o can.given.0.0 (in_frame h)
+  asked h o = callable_within (2 ^ 63) (2 ^ 63 + length u.calls) u c.command can.sound can.within (omega arith) far o can.given.0.0 (in_frame h)
 
   few_left : length (call u c.command).1.calls + length cs ≤ 500
   few_left = let few : length u.calls + length (c ∷ cs) ≤ 500 = can.few in let one = one_more_at_most u c.command can.fits in omega (arith, few, one)
@@ -81,7 +81,7 @@ module _ (u : UnitOfWork) (c : Call) (cs : List Call) (can : CanRepeat u (c ∷ 
         stands = subst (λ at. StandsIn at (call u c.command).1.frames) (open_frames u.frames can.at can.stands h) (stays_in_frame u c.command few can.given.0.0 (in_frame h) can.sound);
         fits = fit_behind u c.command can.fits;
         sound = stays_sound u c.command few can.given.0.0 (in_frame h) can.sound;
-        within = calls_rise (2 ^ 63) u c.command few can.given.0.0 (in_frame h) can.within;
+        within = calls_rise (2 ^ 63) (2 ^ 63) u c.command few can.given.0.0 (in_frame h) can.within;
         few = few_left;
         given = can.given.1;
       }

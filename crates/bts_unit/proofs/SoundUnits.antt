@@ -10,6 +10,7 @@ use Rattle.bts_tree.specs.declared.activity.Activity.{Activity}
 use Rattle.bts_tree.specs.Activities.{is_dormant, is_initial}
 use Rattle.bts_tree.specs.Processes.{Process, activity_at}
 use Rattle.bts_tree.specs.Soundness.{IsSoundInFrames}
+use Rattle.bts_rows.specs.declared.held.Held.{Held}
 use Rattle.bts_command.specs.Given.{IsGiven}
 use Rattle.bts_rows.proofs.ActSound.{act_at_sound}
 use Rattle.bts_rows.proofs.Active.{runs_at}
@@ -43,21 +44,22 @@ opens_at p s h = opens_case p s (activity_at p s) refl h
 opened : (p : ActivityPath) → list_any (same p) (p ∷ []) ≡ true
 opened p = ap (λ b. b || false) (same_refl p)
 
-abbrev sound : ℕ → List ActivityPath → Process → Type 0
-sound n = IsSoundInFrames
+abbrev sound : ℕ → Held → List ActivityPath → Process → Type 0
+sound n h = IsSoundInFrames
 
 abbrev given : Option ActivityPath → Command → Type 0
 given at c = IsGiven c
 
 pub sound_carries : Carries sound given
 sound_carries = record {
-  later = λ n frames s h. h;
-  opens = λ n p s h m. let at = opens_at p s m in opening_keeps_soundness [] s p at.activity h at.found at.waiting;
-  rests = λ n p s h. waiting_keeps_soundness [] s p refl h;
-  finishes = λ n p s h. ending_keeps_soundness [] p status.Normal None s refl refl (λ q e. cc) h;
-  abends = λ n p code s h m. let at = opens_at p s m in complete_keeps_soundness [] p status.Abend (Some code) s at.activity refl refl (λ q e. cc) h at.found (opens_goes_on at.activity.mode at.waiting);
-  acts = λ n p now s c g h. act_at_sound (p ∷ []) p now s c (ap is_some (runs_at (p ∷ []) p s h (opened p)).found) g h;
-  requests = λ n held now s c g l h. request_in_sound s held 1 now c h g l;
+  later = λ n h frames s k. k;
+  opens = λ n h p s k m. let at = opens_at p s m in opening_keeps_soundness [] s p at.activity k at.found at.waiting;
+  rests = λ n h p s k. waiting_keeps_soundness [] s p refl k;
+  finishes = λ n h p s k. ending_keeps_soundness [] p status.Normal None s refl refl (λ q e. cc) k;
+  abends = λ n h p code s k m. let at = opens_at p s m in complete_keeps_soundness [] p status.Abend (Some code) s at.activity refl refl (λ q e. cc) k at.found (opens_goes_on at.activity.mode at.waiting);
+  acts = λ n h p now s c g k. act_at_sound (p ∷ []) p now s c (ap is_some (runs_at (p ∷ []) p s k (opened p)).found) g k;
+  requests = λ n h now s c g l k. request_in_sound s h 1 now c k g l;
+  acquires = λ n h now s c frames before g l now_sound k. k;
 }
 
 pub starts_sound : (kind : UnitKind) (moment : ℕ) (s : Process) → may_begin kind s ≡ true → IsSoundInFrames [] s → IsSoundUnit (start kind moment s)

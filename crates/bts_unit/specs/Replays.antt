@@ -51,6 +51,6 @@ pub record CanRepeat (u : UnitOfWork) (calls : List Call) : Type 0 where
   pub stands : StandsIn at u.frames
   pub fits : IsFit u
   pub sound : IsSoundUnit u
-  pub within : IsSoundWithin (2 ^ 63 + length u.calls) u
+  pub within : IsSoundWithin (2 ^ 63) (2 ^ 63 + length u.calls) u
   pub few : length u.calls + length calls ≤ 500
   pub given : AllByRecursion (λ c. IsGiven c.command × (is_of_one_frame at c.command ≡ true)) calls

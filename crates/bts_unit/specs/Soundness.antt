@@ -1,14 +1,16 @@
 -- What holds of a unit: of its process, and of what its frames kept.
-use Rattle.std.specs.Prelude.{◌≡◌, ℕ, Bool, true, false, ◌||◌, List, [], ◌∷◌, Option, Some, None}
+use Rattle.std.specs.Prelude.{◌≡◌, ℕ, ◌+◌, Bool, true, false, ◌||◌, List, [], ◌∷◌, Option, Some, None}
 use Rattle.std.specs.List.{filter_map}
 use Rattle.std.specs.Option.{option_map, unwrap_or}
 use Rattle.bts_names.specs.Names.{ActivityPath}
 use Rattle.bts_command.specs.declared.command.Command.{Command}
+use Rattle.bts_command.specs.declared.ended.UnitKind.{UnitKind}
+use Rattle.bts_command.specs.declared.ended.UnitKind.TheVariants as unit
 use Rattle.bts_tree.specs.Activities.{is_dormant, is_initial}
 use Rattle.bts_tree.specs.Processes.{Process, activity_at}
 use Rattle.bts_tree.specs.Scopes.{is_empty}
-use Rattle.bts_tree.specs.Soundness.{IsSoundInFrames}
-use Rattle.bts_rows.specs.Bounds.{is_lone, is_within, makes_more}
+use Rattle.bts_tree.specs.Soundness.{IsSoundInFrames, is_within}
+use Rattle.bts_rows.specs.Bounds.{is_lone, makes_more, raised_by}
 use Rattle.bts_unit.specs.Frames.{OpenFrame, UnitOfWork, open_paths}
 use Rattle.bts_unit.specs.Standings.{Standing}
 
@@ -41,9 +43,9 @@ pub record Holds (P : List ActivityPath → Process → Type 0) (u : UnitOfWork)
 abbrev pub IsSoundUnit : UnitOfWork → Type 0
 IsSoundUnit u = Holds IsSoundInFrames u
 
--- besides, the generation and the last entry numbers are at most n
-abbrev pub IsSoundWithin : ℕ → UnitOfWork → Type 0
-IsSoundWithin n u = Holds (λ frames s. IsSoundInFrames frames s × (is_within n s ≡ true)) u
+-- besides, the last entry numbers are at most n, and the generation at most g, or one more where something was acquired
+abbrev pub IsSoundWithin : ℕ → ℕ → UnitOfWork → Type 0
+IsSoundWithin g n u = Holds (λ frames s. IsSoundInFrames frames s × (is_within (raised_by u.held g) n s ≡ true)) u
 
 -- besides, no activity stands there but the root, and it has no timer
 abbrev pub IsSoundLone : UnitOfWork → Type 0
@@ -53,3 +55,10 @@ IsSoundLone u = Holds (λ frames s. IsSoundInFrames frames s × (is_lone s ≡ t
 abbrev pub makes_more_in : Option ActivityPath → Command → Bool
 makes_more_in None c = false
 makes_more_in (Some p) c = makes_more c
+
+-- ---- what a whole unit raises
+
+-- how often a unit defines its key at most: only a request does, and once
+abbrev pub definitions_by : UnitKind → ℕ
+definitions_by (unit.Request item key) = 1
+definitions_by _ = 0

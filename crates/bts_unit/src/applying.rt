@@ -3,13 +3,13 @@ ghost use Rattle.std.specs.Prelude.{◌≡◌, ◌↔◌, ◌+◌, ◌≤◌, �
 ghost use Rattle.std.specs.List.{AllByRecursion, list_all};
 ghost use Rattle.bts_command.specs.Given.{IsGiven};
 ghost use Rattle.bts_command.specs.Kinds.{key_of};
-ghost use Rattle.bts_rows.specs.Bounds.{is_within};
 ghost use Rattle.bts_tree.specs.Repositories.{process_at};
-ghost use Rattle.bts_tree.specs.Soundness.{AreSound, IsSoundInFrames};
+ghost use Rattle.bts_tree.specs.Soundness.{AreSound, IsSoundInFrames, is_within};
 ghost use Rattle.bts_unit.specs.Frames.{path_of};
 ghost use Rattle.bts_unit.specs.OneFrame.{is_of_one_frame, may_begin};
 ghost use Rattle.bts_unit.specs.Playing as playing;
 ghost use Rattle.bts_unit.specs.Refusals as refusals;
+ghost use Rattle.bts_unit.specs.Soundness.{definitions_by};
 
 use crate::ApplyError;
 use crate::codes::is_of_a_limit;
@@ -55,14 +55,13 @@ fn is_same(a: &End, b: &End) -> bool
 fn replay(alloc: Global, scope: Scope, ended: &Ended) -> Result<Scope, ApplyError>
     requires begins { may_begin ended.now.unit scope.process ≡ true }
     requires sound { IsSoundInFrames [] scope.process }
-    requires within { is_within (2 ^ 63) scope.process ≡ true }
+    requires within { is_within (2 ^ 63) (2 ^ 63) scope.process ≡ true }
     requires few { length ended.now.calls ≤ 500 }
     requires given { AllByRecursion (λ c. IsGiven c.command × (is_of_one_frame (path_of ended.now.unit) c.command ≡ true)) ended.now.calls }
     ensures played { OnOk result (playing.IsReplay ended.now scope.process) }
     ensures after { IfOk result (λ s. s.process ≡ (playing.finished ended.now scope.process).now.process) }
     ensures key { IfOk result (λ s. s.process.key ≡ scope.process.key) }
     ensures sound { IfOk result (λ s. IsSoundInFrames [] s.process) }
-    ensures within { (n : ℕ) → is_within n scope.process ≡ true → IfOk result (λ s. is_within (n + length ended.now.calls) s.process ≡ true) }
     ensures cause { IfErr result (refusals.IsOtherwise ended.now (Some scope.process)) }
 {
     let Ok(mut unit) = Unit::start(alloc, scope, ended.unit, ended.moment) else {
@@ -111,13 +110,14 @@ fn apply_to(
     requires played { refusals.is_played ended.now.unit ≡ true }
     requires enabled { playing.may_run ended.now.unit ended.now.moment repository.old.processes ≡ true }
     requires sound { AreSound repository.old.processes }
-    requires within { IsTrue (list_all (is_within (2 ^ 63)) repository.old.processes) }
+    requires within { IsTrue (list_all (is_within (2 ^ 63) (2 ^ 63)) repository.old.processes) }
     requires few { length ended.now.calls ≤ 500 }
     requires given { AllByRecursion (λ c. IsGiven c.command × (is_of_one_frame (path_of ended.now.unit) c.command ≡ true)) ended.now.calls }
     ensures played { OnOk result (playing.IsReplay ended.now (process_at key.now repository.old.processes)) }
     ensures after { OnOk result (repository.new.processes ≡ playing.after repository.old.processes ended.now) }
     ensures sound { OnOk result (AreSound repository.new.processes) }
-    ensures within { (n : ℕ) → list_all (is_within n) repository.old.processes ≡ true → OnOk result (list_all (is_within (n + length ended.now.calls)) repository.new.processes ≡ true) }
+    ensures within { (g n : ℕ) → list_all (is_within g n) repository.old.processes ≡ true
+        → OnOk result (list_all (is_within (g + definitions_by ended.now.unit) (n + length ended.now.calls)) repository.new.processes ≡ true) }
     ensures cause { IfErr result (refusals.IsOtherwise ended.now (Some (process_at key.now repository.old.processes))) }
     ensures back { OnErr result (repository.new ≡ repository.old) }
 {
@@ -140,18 +140,19 @@ fn apply_to(
 /// not looked at. A request or an activation is played from its first call to its end, so the time grows with the size of
 /// its process and with what its calls do. The caller owes that the processes are sound, with generations and last entry
 /// numbers of at most 2^63; that the unit is no notice and no expiry; and that it has at most 500 calls, each a command
-/// that a line of a session gives and that opens no frame. The processes stay sound, and their numbers rise by one a call
-/// at most: so a list of units can be played again one after the other.
+/// that a line of a session gives and that opens no frame. The processes stay sound, their numbers rise by one a call at
+/// most, and a request alone raises a generation, by one: so a list of units can be played again one after the other.
 pub fn apply(alloc: Global, repository: &mut Repository, ended: &Ended) -> Result<(), ApplyError>
     requires sound { AreSound repository.old.processes }
-    requires within { IsTrue (list_all (is_within (2 ^ 63)) repository.old.processes) }
+    requires within { IsTrue (list_all (is_within (2 ^ 63) (2 ^ 63)) repository.old.processes) }
     requires played { IsTrue (refusals.is_played ended.now.unit) }
     requires few { length ended.now.calls ≤ 500 }
     requires given { AllByRecursion (λ c. IsGiven c.command × (is_of_one_frame (path_of ended.now.unit) c.command ≡ true)) ended.now.calls }
     ensures played { OnOk result (playing.Plays repository.old.processes ended.now) }
     ensures after { OnOk result (repository.new.processes ≡ playing.after repository.old.processes ended.now) }
     ensures sound { OnOk result (AreSound repository.new.processes) }
-    ensures within { (n : ℕ) → list_all (is_within n) repository.old.processes ≡ true → OnOk result (list_all (is_within (n + length ended.now.calls)) repository.new.processes ≡ true) }
+    ensures within { (g n : ℕ) → list_all (is_within g n) repository.old.processes ≡ true
+        → OnOk result (list_all (is_within (g + definitions_by ended.now.unit) (n + length ended.now.calls)) repository.new.processes ≡ true) }
     ensures cause { IfErr result (refusals.IsCause repository.old.processes ended.now) }
     ensures back { OnErr result (repository.new ≡ repository.old) }
 {

@@ -5,8 +5,8 @@ ghost use Rattle.bts_names.specs.Names.{Name};
 ghost use Rattle.bts_command.specs.declared.command.Command.{Command};
 ghost use Rattle.bts_command.specs.declared.ended.UnitKind.{UnitKind};
 ghost use Rattle.bts_tree.specs.Processes.{Process};
-ghost use Rattle.bts_tree.specs.Soundness.{IsSoundInFrames, numbers_below};
-ghost use Rattle.bts_rows.specs.Bounds.{is_lone, is_within};
+ghost use Rattle.bts_tree.specs.Soundness.{IsSoundInFrames, is_within, numbers_below};
+ghost use Rattle.bts_rows.specs.Bounds.{is_lone, raised_by};
 ghost use Rattle.bts_command.specs.Given.{IsGiven};
 ghost use Rattle.bts_act.specs.Early.{none_early};
 ghost use Rattle.bts_unit.specs.Calls.{call, run};
@@ -51,17 +51,20 @@ pub fn a_sound_unit_goes_on()
     ensures late { (u : UnitOfWork) → IsSoundUnit u → none_early u.now.process ≡ true }
 {}
 
-/// The generation of a unit's process and its last entry numbers rise by one with each call at most, and stay where
-/// all frames abend.
+/// The last entry numbers of a unit's process rise by one with each call at most, and stay where all frames abend. Its
+/// generation rises once at most over all calls, and not before something is acquired: never in an activation.
 pub fn numbers_rise_with_the_calls()
-    ensures starts { (n : ℕ) (kind : UnitKind) (moment : ℕ) (s : Process) → may_begin kind s ≡ true
-        → IsSoundInFrames [] s → is_within n s ≡ true → IsSoundWithin n (start kind moment s) }
-    ensures rise { (n : ℕ) (u : UnitOfWork) (c : Command) → length u.frames ≤ 1 → IsGiven c
-        → is_of_one_frame (top_path u.frames) c ≡ true → IsSoundWithin (n + length u.calls) u
-        → IsSoundWithin (n + length (call u c).1.calls) (call u c).1 }
-    ensures stops { (n : ℕ) (code : Name) (u : UnitOfWork) → IsSoundWithin n u → IsSoundWithin n (abended_whole code u) }
-    ensures below { (n m : ℕ) (u : UnitOfWork) → IsSoundWithin n u → n < m
-        → (u.now.process.generation < m) × (numbers_below m u.now.process ≡ true) }
+    ensures starts { (g n : ℕ) (kind : UnitKind) (moment : ℕ) (s : Process) → may_begin kind s ≡ true
+        → IsSoundInFrames [] s → is_within g n s ≡ true → IsSoundWithin g n (start kind moment s) }
+    ensures rise { (g n : ℕ) (u : UnitOfWork) (c : Command) → length u.frames ≤ 1 → IsGiven c
+        → is_of_one_frame (top_path u.frames) c ≡ true → IsSoundWithin g (n + length u.calls) u
+        → IsSoundWithin g (n + length (call u c).1.calls) (call u c).1 }
+    ensures stops { (g n : ℕ) (code : Name) (u : UnitOfWork) → IsSoundWithin g n u
+        → IsSoundWithin g n (abended_whole code u) }
+    ensures below { (g n m : ℕ) (u : UnitOfWork) → IsSoundWithin g n u → n < m
+        → numbers_below m u.now.process ≡ true }
+    ensures once { (g n : ℕ) (u : UnitOfWork) → IsSoundWithin g n u
+        → u.now.process.generation ≤ raised_by u.held g }
 {}
 
 /// Where the root is the only activity, and has no timer, that stays so but behind DEFINE ACTIVITY and DEFINE TIMER

@@ -2,8 +2,8 @@
 ghost use Rattle.std.specs.Prelude.{◌≡◌, ◌<◌, ◌+◌, ◌-◌, ◌^◌, ℕ, IsTrue, IfOk, OnOk, OnErr, IfErr, IfSome, Some, None, is_none, is_some, true, false, length, ◌++◌, ◌∷◌, []};
 ghost use Rattle.std.specs.List.{slice_get};
 ghost use Rattle.std.specs.Option.{option_map};
-ghost use Rattle.bts_tree.specs.Soundness.{IsSoundInFrames, numbers_below};
-ghost use Rattle.bts_rows.specs.Bounds.{is_lone, is_within};
+ghost use Rattle.bts_tree.specs.Soundness.{IsSoundInFrames, is_within, numbers_below};
+ghost use Rattle.bts_rows.specs.Bounds.{is_lone, raised_by};
 ghost use Rattle.bts_command.specs.Given.{IsGiven};
 ghost use Rattle.bts_act.specs.Early.{none_early};
 ghost use Rattle.bts_unit.specs.Calls as calls;
@@ -62,8 +62,8 @@ impl Unit {
         ensures ok { IfOk result (λ u. u ≡ frames.start unit moment scope.process) }
         ensures back { IfErr result (λ e. e.1 ≡ scope) }
         ensures sound { IsSoundInFrames [] scope.process → IfOk result (λ u. IsSoundUnit u) }
-        ensures within { (n : ℕ) → IsSoundInFrames [] scope.process → is_within n scope.process ≡ true
-            → IfOk result (λ u. IsSoundWithin n u) }
+        ensures within { (g n : ℕ) → IsSoundInFrames [] scope.process → is_within g n scope.process ≡ true
+            → IfOk result (λ u. IsSoundWithin g n u) }
         ensures lone { IsSoundInFrames [] scope.process → is_lone scope.process ≡ true
             → IfOk result (λ u. IsSoundLone u) }
     {
@@ -100,8 +100,8 @@ impl Unit {
         ensures ok { OnOk result (self.new ≡ (calls.call self.old command).1) }
         ensures err { OnErr result (self.new ≡ self.old) }
         ensures kept { IsSoundUnit self.old → IsSoundUnit self.new }
-        ensures within { (n : ℕ) → IsSoundWithin (n + length self.old.calls) self.old
-            → IsSoundWithin (n + length self.new.calls) self.new }
+        ensures within { (g n : ℕ) → IsSoundWithin g (n + length self.old.calls) self.old
+            → IsSoundWithin g (n + length self.new.calls) self.new }
         ensures lone { makes_more_in (top_path self.old.frames) command ≡ false
             → IsSoundLone self.old → IsSoundLone self.new }
     {
@@ -140,7 +140,7 @@ impl Unit {
         requires { is_none self.old.end ≡ true }
         ensures done { self.new ≡ abended_whole code self.old }
         ensures kept { IsSoundUnit self.old → IsSoundUnit self.new }
-        ensures within { (n : ℕ) → IsSoundWithin n self.old → IsSoundWithin n self.new }
+        ensures within { (g n : ℕ) → IsSoundWithin g n self.old → IsSoundWithin g n self.new }
         ensures lone { IsSoundLone self.old → IsSoundLone self.new }
     {
         abend(&mut self.work, code);
@@ -162,7 +162,8 @@ impl Unit {
         ensures calls { result.calls ≡ self.calls }
         ensures end { Some result.end ≡ self.end }
         ensures sound { IsSoundUnit self → IsSoundInFrames [] result.after.process }
-        ensures within { (n : ℕ) → IsSoundWithin n self → is_within n result.after.process ≡ true }
+        ensures within { (g n : ℕ) → IsSoundWithin g n self
+            → is_within (raised_by self.held g) n result.after.process ≡ true }
         ensures lone { IsSoundLone self → is_lone result.after.process ≡ true }
     {
         let Unit {

@@ -1,12 +1,10 @@
-use Rattle.std.proofs.Common.{◌≡◌, ◌+◌, ◌^◌, length, true, [], arith, sym, ap, ◌∙◌, subst}
-use Rattle.std.specs.List.{list_all}
-use Rattle.bts_rows.specs.Bounds.{is_within}
+use Rattle.std.proofs.Common.{◌≡◌, ◌^◌, true, [], sym, ap, ◌∙◌, subst}
 use Rattle.bts_rows.proofs.Repositories.{put_sound, sound_at, within_at}
 use Rattle.bts_tree.specs.Repositories.{has_room, put}
-use Rattle.bts_tree.specs.Soundness.{AreSound, IsSoundInFrames}
+use Rattle.bts_tree.specs.Soundness.{AreSound, IsSoundInFrames, is_within}
 use Rattle.bts_unit.specs.OneFrame.{may_begin}
-use Rattle.bts_unit.specs.Playing.{finished}
-use Rattle.bts_unit.proofs.Applied.{after_put, after_rollback, begins_so, key_there, within_all, within_put}
+use Rattle.bts_unit.specs.Playing.{IsReplay, finished}
+use Rattle.bts_unit.proofs.Applied.{Risen, after_put, after_rollback, begins_so, key_there, played_within, still_within}
 use Rattle.bts_unit.proofs.applying.apply_to.Goals as goal
 
 pub replay-requires-clause-begins : goal.replay-requires-clause-begins
@@ -18,7 +16,7 @@ pub replay-requires-clause-sound : goal.replay-requires-clause-sound
 replay-requires-clause-sound c = subst (λ h. IsSoundInFrames [] h.process) (sym c.in-Ok.ensures) (sound_at c.args.key.now c.args.repository.now.processes c.requires.sound)
 
 pub replay-requires-clause-within : goal.replay-requires-clause-within
-replay-requires-clause-within c = subst (λ h. is_within (2 ^ 63) h.process ≡ true) (sym c.in-Ok.ensures) (within_at (2 ^ 63) c.args.key.now c.args.repository.now.processes c.requires.within)
+replay-requires-clause-within c = subst (λ h. is_within (2 ^ 63) (2 ^ 63) h.process ≡ true) (sym c.in-Ok.ensures) (within_at (2 ^ 63) (2 ^ 63) c.args.key.now c.args.repository.now.processes c.requires.within)
 
 pub put_scope-requires : goal.put_scope-requires
 put_scope-requires c =
@@ -42,10 +40,12 @@ pub returns-then-is_rollback-clause-after : goal.returns-then-is_rollback-clause
 returns-then-is_rollback-clause-after c = after_rollback c.args.repository.now.processes c.args.ended.now c.args.key.now c.requires.process (sym c.if-is_rollback.ensures)
 
 pub returns-clause-within : goal.returns-clause-within
-returns-clause-within c = λ n h.
-    let k = length c.args.ended.now.calls in
-    let own = c.in_ok-after.ensures.within n (subst (λ x. is_within n x.process ≡ true) (sym c.in-Ok.ensures) (within_at n c.args.key.now c.args.repository.now.processes h)) in
-    subst (λ repo. list_all (is_within (n + k)) repo ≡ true) (sym (stand_then c)) (within_put n k c.in_ok-after.after.process c.args.repository.now.processes h own)
+returns-clause-within c = λ g n h.
+    let repo = c.args.repository.now.processes in
+    let e = c.args.ended.now in
+    subst (Risen g n repo e h) (sym (returns-clause-after c))
+    (played_within g n repo e h c.args.key.now c.requires.process c.requires.played c.requires.enabled c.requires.sound c.requires.given
+    (subst (λ s. IsReplay e s.process) c.in-Ok.ensures c.in_ok-after.ensures.played))
 
 pub returns-then-is_rollback-clause-within : goal.returns-then-is_rollback-clause-within
-returns-then-is_rollback-clause-within c = λ n h. within_all n (n + length c.args.ended.now.calls) (omega arith) c.args.repository.now.processes h
+returns-then-is_rollback-clause-within c = λ g n h. still_within g n c.args.repository.now.processes c.args.ended.now h

@@ -7,14 +7,13 @@ use Rattle.bts_unit.specs.Frames.{UnitOfWork}
 use Rattle.bts_unit.specs.Playing.{budgeted}
 use Rattle.bts_unit.specs.Refusals.{IsOtherCall}
 use Rattle.bts_unit.specs.Replays.{CanRepeat}
-use Rattle.bts_unit.proofs.Applied.{can_replay, ended_otherwise, leaves, left_key, left_sound, other_call, replays, still_open}
-use Rattle.bts_unit.proofs.BoundedUnits.{key_rises, of_key, within, within_rises}
+use Rattle.bts_unit.proofs.Applied.{can_replay, ended_otherwise, leaves, left_key, other_call, replays, stays_sound, still_open}
 use Rattle.bts_unit.proofs.applying.replay.Goals as goal
 
 pub first_other-requires : goal.first_other-requires
 first_other-requires c =
     subst (CanRepeat c.in-Ok.unit) (sym c.as_slice.ensures)
-    (can_replay c.args.ended.now c.args.scope.process c.in-Ok.unit c.in-Ok.ensures.ok (c.in-Ok.ensures.sound c.requires.sound) (c.in-Ok.ensures.within (2 ^ 63) c.requires.sound c.requires.within) c.requires.few c.requires.given)
+    (can_replay c.args.ended.now c.args.scope.process c.in-Ok.unit c.in-Ok.ensures.ok (c.in-Ok.ensures.sound c.requires.sound) (c.in-Ok.ensures.within (2 ^ 63) (2 ^ 63) c.requires.sound c.requires.within) c.requires.few c.requires.given)
 
 -- ---- what first_other told
 
@@ -81,9 +80,4 @@ returns-clause-key c =
 pub returns-clause-sound : goal.returns-clause-sound
 returns-clause-sound c =
     subst (IsSoundInFrames []) (sym (returns-clause-after c))
-    (left_sound (of_key c.args.scope.process.key) (key_rises c.args.scope.process.key) 0 c.args.ended.now c.args.scope.process c.requires.begins c.requires.sound c.requires.given refl (returns-clause-played c)).0
-
-pub returns-clause-within : goal.returns-clause-within
-returns-clause-within c = λ n h.
-    subst (within (n + length c.args.ended.now.calls)) (sym (returns-clause-after c))
-    (left_sound within within_rises n c.args.ended.now c.args.scope.process c.requires.begins c.requires.sound c.requires.given h (returns-clause-played c)).1
+    (stays_sound c.args.ended.now c.args.scope.process c.requires.begins c.requires.sound c.requires.given (returns-clause-played c))

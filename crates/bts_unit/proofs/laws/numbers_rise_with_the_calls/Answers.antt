@@ -1,4 +1,3 @@
-use Rattle.std.proofs.Common.{arith}
 use Rattle.bts_unit.proofs.BoundedUnits.{calls_rise, starts_within, stops_within, unit_below, unit_generation}
 use Rattle.bts_unit.proofs.laws.numbers_rise_with_the_calls.Goals as goal
 
@@ -12,4 +11,7 @@ pub returns-clause-stops : goal.returns-clause-stops
 returns-clause-stops c = stops_within
 
 pub returns-clause-below : goal.returns-clause-below
-returns-clause-below c = λ n m u h l. let generation = unit_generation n u h in (omega arith, unit_below n m u h l)
+returns-clause-below c = λ g n m u h l. unit_below g n m u h l
+
+pub returns-clause-once : goal.returns-clause-once
+returns-clause-once c = unit_generation

@@ -1,7 +1,7 @@
 use Rattle.std.proofs.Common.{◌^◌, ◌+◌, ◌≤◌, length, arith, ap}
 use Rattle.std.specs.List.{list_all}
-use Rattle.bts_rows.specs.Bounds.{is_within}
 use Rattle.bts_tree.specs.Repositories.{Stored}
+use Rattle.bts_tree.specs.Soundness.{is_within}
 use Rattle.bts_unit.specs.Frames.{path_of}
 use Rattle.bts_unit.proofs.Applied.{within_all}
 use Rattle.bts_unit.proofs.replay_tests.started.Goals as goal
@@ -12,4 +12,4 @@ apply-requires-clause-given c = c.in_ok-ended.ensures.given (path_of c.in_ok-end
 pub returns-in-Ok-clause-within : goal.returns-in-Ok-clause-within
 returns-in-Ok-clause-within c =
     let few : length c.in_ok-ended.ended.calls ≤ 3 = c.in_ok-ended.ensures.few in
-    within_all (0 + length c.in_ok-ended.ended.calls) (2 ^ 63) (omega (arith, few)) c.apply.new.repository.processes (c.in-Ok.ensures.within 0 (ap (λ (r : Stored). list_all (is_within 0) r.processes) c.empty-repository.ensures))
+    within_all 1 (0 + length c.in_ok-ended.ended.calls) (2 ^ 63) (2 ^ 63) (omega arith) (omega (arith, few)) c.apply.new.repository.processes (c.in-Ok.ensures.within 0 0 (ap (λ (r : Stored). list_all (is_within 0 0) r.processes) c.empty-repository.ensures))

@@ -19,11 +19,11 @@ returns-clause-kept c = λ sound.
     subst IsSoundUnit (sym (stopped ∙ ap (abended_whole c.args.code) c.self.view_is)) (stops_sound c.args.code c.args.self.now sound)
 
 pub returns-clause-within : goal.returns-clause-within
-returns-clause-within c = λ n within.
+returns-clause-within c = λ g n within.
     let u = c.self.inside in
     let goes_on = ap (λ v. is_none v.end) c.self.view_is ∙ c.requires in
     let stopped = stopped_whole u.kind u.work u.calls.items u.stopped c.self.invariant goes_on c.args.code c.abend.new.work c.abend.ensures in
-    subst (IsSoundWithin n) (sym (stopped ∙ ap (abended_whole c.args.code) c.self.view_is)) (stops_within n c.args.code c.args.self.now within)
+    subst (IsSoundWithin g n) (sym (stopped ∙ ap (abended_whole c.args.code) c.self.view_is)) (stops_within g n c.args.code c.args.self.now within)
 
 pub returns-clause-lone : goal.returns-clause-lone
 returns-clause-lone c = λ lone.

@@ -33,10 +33,10 @@ returns-clause-kept c = λ sound.
     subst IsSoundUnit (sym (returns-clause-ok c)) (stays_sound c.args.self.now c.args.command few c.requires.given c.requires.one_frame sound)
 
 pub returns-clause-within : goal.returns-clause-within
-returns-clause-within c = λ n within.
+returns-clause-within c = λ g n within.
     let u = c.self.inside in
     let few = subst (λ v. length v.frames ≤ 1) c.self.view_is (few_frames u.work u.calls.items u.stopped _ c.self.invariant) in
-    subst (λ v. IsSoundWithin (n + length v.calls) v) (sym (returns-clause-ok c)) (calls_rise n c.args.self.now c.args.command few c.requires.given c.requires.one_frame within)
+    subst (λ v. IsSoundWithin g (n + length v.calls) v) (sym (returns-clause-ok c)) (calls_rise g n c.args.self.now c.args.command few c.requires.given c.requires.one_frame within)
 
 pub returns-clause-lone : goal.returns-clause-lone
 returns-clause-lone c = λ none lone.

@@ -25,7 +25,7 @@ pub returns-in-Ok-clause-sound : goal.returns-in-Ok-clause-sound
 returns-in-Ok-clause-sound c = λ sound. subst IsSoundUnit (sym (returns-in-Ok-clause-ok c)) (starts_sound c.args.unit c.args.moment c.args.scope.process c.requires sound)
 
 pub returns-in-Ok-clause-within : goal.returns-in-Ok-clause-within
-returns-in-Ok-clause-within c = λ n sound within. subst (IsSoundWithin n) (sym (returns-in-Ok-clause-ok c)) (starts_within n c.args.unit c.args.moment c.args.scope.process c.requires sound within)
+returns-in-Ok-clause-within c = λ g n sound within. subst (IsSoundWithin g n) (sym (returns-in-Ok-clause-ok c)) (starts_within g n c.args.unit c.args.moment c.args.scope.process c.requires sound within)
 
 pub returns-in-Ok-clause-lone : goal.returns-in-Ok-clause-lone
 returns-in-Ok-clause-lone c = λ sound lone. subst IsSoundLone (sym (returns-in-Ok-clause-ok c)) (starts_lone c.args.unit c.args.moment c.args.scope.process c.requires sound lone)
