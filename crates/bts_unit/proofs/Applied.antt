@@ -165,9 +165,10 @@ module _ (e : Ended) (s : Process) (may : may_begin e.unit s ≡ true) (sound : 
     not_raised key path same = (left_sound nothing in_frames nothing_rises 0 e s may sound given (λ c. subst (λ kind. in_frames (path_of kind) c) (sym same) tt) refl r).1
 
     by_kind : (kind : UnitKind) → e.unit ≡ kind → IsWithin (g + definitions_by kind)
-    by_kind (unit.Request item key) same = within_more _ _ (g + 1) _ _ raised (raised_once (last_of e s).held g) (omega arith)
+    by_kind (unit.Request item key) same =
+        within_more (raised_by (last_of e s).held g) (n + length e.calls) (g + 1) (n + length e.calls) (finished e s).now.process raised (raised_once (last_of e s).held g) (omega arith)
     by_kind (unit.Activation key path) same =
-        within_more g _ (g + 0) _ _ (subst (λ h. IsWithin (raised_by h g)) (not_raised key path same) raised) (omega arith) (omega arith)
+        within_more g (n + length e.calls) (g + 0) (n + length e.calls) (finished e s).now.process (subst (λ h. IsWithin (raised_by h g)) (not_raised key path same) raised) (omega arith) (omega arith)
     by_kind kind same = absurd (true≢false (sym may ∙ ap (λ k. may_begin k s) same))
 
     -- the generation by the definitions of such a unit, and the numbers by its calls

@@ -221,17 +221,17 @@ module _ (P : ℕ → Held → List ActivityPath → Process → Type 0) (Asked 
 
       -- what is said behind an answer, of the process and of what the frame kept
       record Behind (at : Option ActivityPath) (x : Process × Held) : Type 0 where
-        process : P (n + 1) x.1 (option_to_list at) x.0
-        kept : IsKept (P (n + 1) x.1) at [] f.kept
+        now_so : P (n + 1) x.1 (option_to_list at) x.0
+        kept_so : IsKept (P (n + 1) x.1) at [] f.kept
 
       row_case : (spot : Here) (a : Answer (Process × Held)) → opens_on c ≡ None → Behind f.at (left_with u.now.process u.held a) → Own (n + 1) (answered spot c f [] one a).1
-      row_case spot (refused r why) none h = stays (n + 1) h.process h.kept
+      row_case spot (refused r why) none h = stays (n + 1) h.now_so h.kept_so
       row_case spot (done v x) none h =
           subst (λ o. Own (n + 1) (opened_by spot o (says_ran v) (stepped c f [] one x))) (sym none)
           (record {
             holds = record {
-              process = subst (λ ps. P (n + 1) x.1 ps (behind (is_retrieval c) u.now x.0).process) (sym (one_path marked)) (subst (P (n + 1) x.1 (option_to_list f.at)) (sym (behind_process (is_retrieval c) u.now x.0)) h.process);
-              kept = (h.kept, tt);
+              process = subst (λ ps. P (n + 1) x.1 ps (behind (is_retrieval c) u.now x.0).process) (sym (one_path marked)) (subst (P (n + 1) x.1 (option_to_list f.at)) (sym (behind_process (is_retrieval c) u.now x.0)) h.now_so);
+              kept = (h.kept_so, tt);
             };
             stands = refl;
             calls = refl;
@@ -246,7 +246,7 @@ module _ (P : ℕ → Held → List ActivityPath → Process → Type 0) (Asked 
           → Behind (Some p) (left_with u.now.process u.held a)
       refused_case p a e h k =
           subst (λ x. Behind (Some p) (left_with u.now.process u.held x)) (sym e)
-          (record { process = carries.later n u.held (p ∷ []) u.now.process h; kept = kept_in p k })
+          (record { now_so = carries.later n u.held (p ∷ []) u.now.process h; kept_so = kept_in p k })
 
       act_case : (p : ActivityPath) (b : Bool) → is_of_requests c ≡ b → Asked (Some p) c → is_of_one_frame (Some p) c ≡ true → P n u.held (p ∷ []) u.now.process → IsKept (P n u.held) (Some p) [] f.kept
           → Behind (Some p) (left_with u.now.process u.held (answer_at (Some p)))
@@ -254,7 +254,7 @@ module _ (P : ℕ → Held → List ActivityPath → Process → Type 0) (Asked 
       act_case p false e asked i h k =
           subst (λ x. Behind (Some p) (left_with u.now.process u.held x)) (sym (of_activity p u.held 1 u.moment u.now.process c (past_four c e) (from_fourteen (command_number c) (is_of_requests c) _ refl i e)))
           (subst (Behind (Some p)) (sym (left_of u.held u.now.process (act_at p u.moment u.now.process c)))
-          (record { process = carries.acts n u.held p u.moment u.now.process c asked h; kept = kept_in p k }))
+          (record { now_so = carries.acts n u.held p u.moment u.now.process c asked h; kept_so = kept_in p k }))
 
       -- in a request's first frame
 
@@ -270,7 +270,7 @@ module _ (P : ℕ → Held → List ActivityPath → Process → Type 0) (Asked 
       unfolding answer
       answer_case None asked i h k =
           let l = no_reset (is_none (opens_on c)) (resets c) i in
-          record { process = carries.requests n u.held u.moment u.now.process c asked l h; kept = acquired_case f.kept asked l h k }
+          record { now_so = carries.requests n u.held u.moment u.now.process c asked l h; kept_so = acquired_case f.kept asked l h k }
       answer_case (Some p) asked i h k = act_case p (is_of_requests c) refl asked i h k
 
       by_row : Asked f.at c → is_of_one_frame f.at c ≡ true → Own (n + 1) (done_in f [] one c).1
