@@ -1,5 +1,5 @@
 // Events that are fired before their timers.
-ghost use Rattle.std.specs.Prelude.{◌≡◌, List, IsTrue, not, true};
+ghost use Rattle.std.specs.Prelude.{◌≡◌, List, not, true};
 ghost use Rattle.std.specs.List.{list_all};
 ghost use Rattle.bts_names.specs.Names.{ActivityPath};
 ghost use Rattle.bts_tree.specs.Processes.{Process};
@@ -15,7 +15,7 @@ use std::collections::BTreeMap;
 /// Whether no event of any activity is fired while its timer is UNEXPIRED, as in every sound process. Its time grows
 /// with the events of the process.
 pub fn none_is_early(scope: &Scope) -> bool
-    ensures { IsTrue result → IsTrue (none_early scope.now.process) }
+    ensures { result ≡ none_early scope.now.process }
 {
     match scope.tree() {
         Some(tree) => all_late(tree.activities()),

@@ -4,9 +4,11 @@ ghost use Rattle.bts_act.specs.Replies.{normal, refusal, reply_to};
 
 use bts_event::PoolError;
 use bts_names::{NoMemory, Reason, Reply, Resp, Value};
+use thiserror::Error;
 
 /// Why a command is refused.
-#[derive(Clone, Copy, Debug)]
+#[derive(Clone, Copy, Debug, Error)]
+#[error("refused")]
 pub struct Refusal {
     pub resp: Resp,
     pub reason: Reason,

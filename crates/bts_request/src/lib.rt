@@ -10,6 +10,7 @@ mod commands;
 mod containers;
 mod running;
 
+pub use bts_rows::Held;
 pub use commands::request;
 
 #[cfg(test)]

@@ -12,6 +12,7 @@ pub mod TimerCalls
 pub mod Written
 pub mod InPlace
 pub mod Active
+pub mod Leading
 pub mod Turned
 pub mod Fits
 pub mod TimerFits

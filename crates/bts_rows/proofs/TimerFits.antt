@@ -5,6 +5,7 @@ use Rattle.std.specs.Map as map
 use Rattle.std.proofs.lemmas.Map.{lookup-set_value, keys-set_value}
 use Rattle.bts_names.specs.Names.{Name, same, same_exact, initial_name}
 use Rattle.bts_names.specs.Named.{lookup, is_there, without}
+use Rattle.bts_names.specs.declared.state.TimerStatus.{TimerStatus}
 use Rattle.bts_names.specs.declared.state.TimerStatus.TheVariants as status
 use Rattle.bts_event.specs.declared.event.Event.{Event}
 use Rattle.bts_event.specs.declared.event.Event.TheVariants.{Atomic as atomic, Composite as composite}
@@ -18,7 +19,7 @@ use Rattle.bts_event.proofs.Accounts.{after_sound}
 use Rattle.bts_event.proofs.Orders.{IsRising, lookup-in_order, lookup-without}
 use Rattle.bts_event.proofs.Same.{same_laws, same_refl}
 use Rattle.bts_timer.specs.declared.timer.Timer.{Timer as OneTimer}
-use Rattle.bts_timer.specs.Due.{is_unexpired}
+use Rattle.bts_timer.specs.Due.{is_unexpired, is_unexpired_status}
 use Rattle.bts_timer.specs.Timers.{Timers, set_where_there, started, with_status}
 use Rattle.bts_tree.specs.declared.activity.Activity.{Activity}
 use Rattle.bts_tree.specs.Soundness.{IsSoundActivity}
@@ -153,14 +154,14 @@ module _ (t : Name) (x : OneTimer) (a : Activity) (s : IsSoundActivity a) (there
   pub fits_without : FitsIn a (without_timer t a)
   fits_without = subst (λ o. let b : Activity = record a { pool = removed_if o a.pool; timers = without t a.timers } in FitsIn a b) (sym event.is_its) fits_removed
 
-  -- ---- a timer is forced
+  -- ---- a timer ends, forced or expired
 
-  module _ (unexpired : is_unexpired x ≡ true) where
-    abbrev forced : OneTimer
-    forced = record { due = x.due; status = status.Forced }
+  module _ (unexpired : is_unexpired x ≡ true) (to : TimerStatus) (is_end : is_unexpired_status to ≡ false) where
+    abbrev over : OneTimer
+    over = record { due = x.due; status = to }
 
     abbrev ended : Timers
-    ended = map.set_value (same t) a.timers forced
+    ended = map.set_value (same t) a.timers over
 
     abbrev behind_firing : Events
     behind_firing = (fired event.name a.pool).events
@@ -176,19 +177,22 @@ module _ (t : Name) (x : OneTimer) (a : Activity) (s : IsSoundActivity a) (there
 
     fits_fired : let b : Activity = record a { pool = fired event.name a.pool; timers = ended } in FitsIn a b
     fits_fired =
-        fits_timers a s t (Some forced) ended (fired event.name a.pool)
+        fits_timers a s t (Some over) ended (fired event.name a.pool)
         (sound_fire event.name a.pool s.pool (may_fire (lookup event.name a.pool.events) (Timer t) event.fires unfired))
-        (subst IsRising (sym (keys-set_value (same t) a.timers forced)) s.timers_rise)
-        (λ u. lookup-set_value same_laws (same t) (λ y z e. ap (λ n. same n z) (same_exact t y e)) u forced a.timers (ap is_some there))
+        (subst IsRising (sym (keys-set_value (same t) a.timers over)) s.timers_rise)
+        (λ u. lookup-set_value same_laws (same t) (λ y z e. ap (λ n. same n z) (same_exact t y e)) u over a.timers (ap is_some there))
         (keeps_firing (others t) event.name a.pool own_unpicked)
         (record {
           has_event = λ y h. record { name = event.name; fires = still_fires };
           one_event = λ n m h g. (fit_now a s).one_event n m t (same_trigger n h) (same_trigger m g);
           has_timer = λ n h. refl;
-          unexpired = λ n y h g u. let q : forced ≡ y = cc in absurd (true≢false (sym u ∙ ap is_unexpired (sym q)));
+          unexpired = λ n y h g u. let q : over ≡ y = cc in absurd (true≢false (sym u ∙ ap is_unexpired (sym q) ∙ is_end));
         })
 
-    pub fits_forced : FitsIn a (with_forced t a)
-    fits_forced =
-        subst (λ o. let b : Activity = record a { pool = fired_if o a.pool; timers = with_status status.Forced t a.timers } in FitsIn a b) (sym event.is_its)
-        (subst (λ o. let b : Activity = record a { pool = fired event.name a.pool; timers = set_where_there status.Forced t a.timers o } in FitsIn a b) (sym there) fits_fired)
+    pub fits_ended : let b : Activity = record a { pool = fired_if (event_of t a.pool.events) a.pool; timers = with_status to t a.timers } in FitsIn a b
+    fits_ended =
+        subst (λ o. let b : Activity = record a { pool = fired_if o a.pool; timers = with_status to t a.timers } in FitsIn a b) (sym event.is_its)
+        (subst (λ o. let b : Activity = record a { pool = fired event.name a.pool; timers = set_where_there to t a.timers o } in FitsIn a b) (sym there) fits_fired)
+
+  pub fits_forced : is_unexpired x ≡ true → FitsIn a (with_forced t a)
+  fits_forced unexpired = fits_ended unexpired status.Forced refl

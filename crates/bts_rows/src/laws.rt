@@ -1,21 +1,28 @@
 // What holds of every command, in whatever frame it stands.
-ghost use Rattle.std.specs.Prelude.{◌≡◌, ℕ, ◌+◌, List, [], IsSome, true, false};
+ghost use Rattle.std.specs.Prelude.{◌≡◌, ℕ, ◌+◌, List, [], Option, Some, IsSome, true, false};
+ghost use Rattle.std.specs.List.{list_any};
 ghost use Rattle.std.specs.List.Sorted.{IsStrictlySortedBy};
 ghost use Rattle.std.specs.Map.{keys_of};
 ghost use Rattle.std.specs.Ordering.{nat_cmp};
 ghost use Rattle.std.specs.Cmp.Lexicographic.{slice_cmp};
 ghost use Rattle.bts_names.specs.Answer.{left_by, reply_of};
-ghost use Rattle.bts_names.specs.Names.{ActivityPath};
+ghost use Rattle.bts_names.specs.Names.{ActivityPath, Name, same};
+ghost use Rattle.bts_names.specs.declared.state.Mode.TheVariants.{Initial};
 ghost use Rattle.bts_command.specs.declared.command.Command.{Command};
+ghost use Rattle.bts_command.specs.declared.command.Target.{Target};
+ghost use Rattle.bts_tree.specs.declared.activity.Activity.{Activity};
+ghost use Rattle.bts_tree.specs.Activities.{is_complete, new_activity};
+ghost use Rattle.bts_tree.specs.Leading.{leads_from};
+ghost use Rattle.bts_tree.specs.Modes.{is_forced, is_reset};
 ghost use Rattle.bts_tree.specs.Processes.{Process, activities, activity_at};
 ghost use Rattle.bts_tree.specs.Soundness.{IsSoundInFrames, is_within};
 ghost use Rattle.bts_rows.specs.ActRows.{act_row};
 ghost use Rattle.bts_rows.specs.Bounds.{is_lone, makes_more, raised_by};
-ghost use Rattle.bts_rows.specs.FamilyRows.{family_row, resets};
+ghost use Rattle.bts_rows.specs.FamilyRows.{cancel_row, family_row, reset_row, resets};
 ghost use Rattle.bts_command.specs.Given.{IsGiven};
 ghost use Rattle.bts_rows.specs.Replies.{IsProper, is_normal};
 ghost use Rattle.bts_rows.specs.Rows.{act_at, answer, family_at, request_in};
-ghost use Rattle.bts_rows.specs.Targets.{Here, in_activity, in_request};
+ghost use Rattle.bts_rows.specs.Targets.{Here, in_activity, in_request, named_by, path as named_path};
 ghost use Rattle.bts_rows.specs.declared.held.Held.{Held};
 
 /// A reply that is NORMAL has no reason, and every other one has a reason and no value.
@@ -69,6 +76,24 @@ pub fn only_definitions_make_more()
     ensures request { (frames : List ActivityPath) (held : Held) (depth now : ℕ) (s : Process) (c : Command)
         → resets c ≡ false → IsSoundInFrames frames s → is_lone s ≡ true
         → is_lone (left_by (s, held) (request_in held depth now s c)).0 ≡ true }
+{}
+
+/// Where a command changes modes, it leads from modes that the table of the modes has for its cause: what is new is
+/// INITIAL; CANCEL is answered NORMAL only where its target, which has no open frame, is INITIAL or DORMANT, and forces
+/// what isn't COMPLETE below it from these too; RESET is answered NORMAL only where its target is INITIAL or COMPLETE.
+pub fn rows_lead_from_the_modes_of_their_table()
+    ensures new { (name transid program : Name) (completion : Option Name)
+        → (new_activity name transid program completion).mode ≡ Initial }
+    ensures cancel { (frames : List ActivityPath) (here : Here) (s : Process) (target : Target) (p : ActivityPath) (a : Activity)
+        → IsSoundInFrames frames s → named_by here s target ≡ named_path p → activity_at p s ≡ Some a
+        → list_any (same p) frames ≡ false → is_normal (reply_of (cancel_row here s target)).resp ≡ true
+        → leads_from is_forced a.mode ≡ true }
+    ensures below { (frames : List ActivityPath) (s : Process) (p : ActivityPath) (a : Activity)
+        → IsSoundInFrames frames s → activity_at p s ≡ Some a → list_any (same p) frames ≡ false
+        → is_complete a ≡ false → leads_from is_forced a.mode ≡ true }
+    ensures reset { (here : Here) (s : Process) (target : Target) (p : ActivityPath) (a : Activity)
+        → named_by here s target ≡ named_path p → activity_at p s ≡ Some a
+        → is_normal (reply_of (reset_row here s target)).resp ≡ true → leads_from is_reset a.mode ≡ true }
 {}
 
 /// In an activity's frame a command is read on the part of the process at its path, and the part is joined. That is

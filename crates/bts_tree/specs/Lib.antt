@@ -3,6 +3,7 @@ pub mod Fields
 pub mod Keeping
 pub mod Lending
 pub mod Modes
+pub mod Leading
 pub mod Paths
 pub mod Processes
 pub mod Repositories

@@ -185,7 +185,7 @@ key_there key (s ∷ repo) = by (same_key key s.key) refl (key_there key repo)
     by true e i = sym (keys_exact key s.key e)
     by false e i = i
 
-process_is : (kind : UnitKind) (key : Key) (repo : Processes) → key_of kind ≡ Some key → process_of kind repo ≡ Some (process_at key repo)
+pub process_is : (kind : UnitKind) (key : Key) (repo : Processes) → key_of kind ≡ Some key → process_of kind repo ≡ Some (process_at key repo)
 process_is (unit.Request item k) key repo e = let same : k ≡ key = cc in ap (λ z. Some (process_at z repo)) same
 process_is (unit.Activation k path) key repo e = let same : k ≡ key = cc in ap (λ z. Some (process_at z repo)) same
 process_is (unit.Notice k path) key repo e = let same : k ≡ key = cc in ap (λ z. Some (process_at z repo)) same

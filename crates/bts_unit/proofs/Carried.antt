@@ -78,7 +78,7 @@ ready_opens : (o : Option Activity) → unwrap_or (option_map is_ready o) false 
 ready_opens None h = cc
 ready_opens (Some a) h = (and_parts (is_initial a || is_dormant a) (not a.suspended) (and_parts ((is_initial a || is_dormant a) && not a.suspended) (has_entries a) h).0).0
 
-begins_open : (kind : UnitKind) (s : Process) → may_begin kind s ≡ true → may_open (path_of kind) s ≡ true
+pub begins_open : (kind : UnitKind) (s : Process) → may_begin kind s ≡ true → may_open (path_of kind) s ≡ true
 begins_open (unit.Activation key p) s h = ready_opens (activity_at p s) h
 begins_open _ s h = refl
 

@@ -13,3 +13,6 @@ pub mod Repeated
 pub mod Applied
 pub mod Alike
 pub mod AtEnd
+mod Committed
+mod Expired
+mod Leading

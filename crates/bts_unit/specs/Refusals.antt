@@ -1,5 +1,5 @@
 -- Why an ended unit isn't one that processes give.
-use Rattle.std.specs.Prelude.{◌≡◌, ◌≢◌, ◌⊎◌, ℕ, zero, suc, Bool, ◌<◌, true, false, List, [], length, take, slice_get, Option, Some, None}
+use Rattle.std.specs.Prelude.{◌≡◌, ◌≢◌, ◌⊎◌, ℕ, zero, suc, Bool, ◌<◌, true, false, List, [], length, take, slice_get, Option, Some, None, is_some}
 use Rattle.bts_command.specs.declared.command.Call.{Call}
 use Rattle.bts_command.specs.declared.ended.End.{End}
 use Rattle.bts_command.specs.declared.ended.End.TheVariants.{Commit}
@@ -46,10 +46,10 @@ pub record HasOtherEnd (e : Ended) (s : Option Process) (call : ℕ) : Type 0 wh
 abbrev pub IsToldOtherwise : Ended → Option Process → ℕ → Type 0
 IsToldOtherwise e s call = IsOtherCall (calls_given e s) e.calls call ⊎ HasOtherEnd e s call
 
--- why it isn't replayed; for want of memory there is no cause
+-- why it isn't replayed; memory is wanted for a process alone
 abbrev pub IsOtherwise : Ended → Option Process → ApplyError → Type 0
 IsOtherwise e s (error.NotLegal call) = IsToldOtherwise e s call
-IsOtherwise e s error.NoMemory = Unit {0}
+IsOtherwise e s error.NoMemory = is_some s ≡ true
 
 -- ---- why it isn't applied
 
@@ -63,10 +63,14 @@ pub record IsNotGiven (repo : Processes) (e : Ended) (call : ℕ) : Type 0 where
   pub enabled : may_run e.unit e.moment repo ≡ true
   pub other : IsToldOtherwise e (process_of e.unit repo) call
 
--- for want of memory there is no cause
+-- they let it run, and it has a process, which memory is wanted for
+pub record WantsMemory (repo : Processes) (e : Ended) : Type 0 where
+  pub enabled : may_run e.unit e.moment repo ≡ true
+  pub process : is_some (process_of e.unit repo) ≡ true
+
 abbrev pub IsCause : Processes → Ended → ApplyError → Type 0
 IsCause repo e (error.NotLegal call) = IsNotEnabled repo e call ⊎ IsNotGiven repo e call
-IsCause repo e error.NoMemory = Unit {0}
+IsCause repo e error.NoMemory = WantsMemory repo e
 
 -- the units that are played call by call, and those without a process: all but notices and expiries
 abbrev pub is_played : UnitKind → Bool

@@ -6,7 +6,10 @@ use Rattle.bts_names.specs.Names.{ActivityPath}
 use Rattle.bts_command.specs.declared.command.Command.{Command}
 use Rattle.bts_command.specs.declared.ended.UnitKind.{UnitKind}
 use Rattle.bts_command.specs.declared.ended.UnitKind.TheVariants as unit
+use Rattle.bts_tree.specs.declared.activity.Activity.{Activity}
 use Rattle.bts_tree.specs.Activities.{is_dormant, is_initial}
+use Rattle.bts_tree.specs.Leading.{leads_from}
+use Rattle.bts_tree.specs.Modes.{abends, finishes, waits}
 use Rattle.bts_tree.specs.Processes.{Process, activity_at}
 use Rattle.bts_tree.specs.Scopes.{is_empty}
 use Rattle.bts_tree.specs.Soundness.{IsSoundInFrames, is_within}
@@ -55,6 +58,14 @@ IsSoundLone u = Holds (λ frames s. IsSoundInFrames frames s × (is_lone s ≡ t
 abbrev pub makes_more_in : Option ActivityPath → Command → Bool
 makes_more_in None c = false
 makes_more_in (Some p) c = makes_more c
+
+-- ---- modes
+
+-- where its frame ends, an activity goes on from its mode as the table of the modes has it, whatever ends the frame
+pub record LeadsToItsEnds (a : Activity) : Type 0 where
+  pub waits : leads_from waits a.mode ≡ true
+  pub finishes : leads_from finishes a.mode ≡ true
+  pub abends : leads_from abends a.mode ≡ true
 
 -- ---- what a whole unit raises
 

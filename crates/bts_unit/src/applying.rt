@@ -137,7 +137,9 @@ fn apply_to(
 
 /// Plays an ended unit again, and lets the processes be what it leaves. It is refused exactly where it isn't one that the
 /// processes give at its moment, and leaves them as they are then; the session's items have a rule of their own, which is
-/// not looked at. A request or an activation is played from its first call to its end, so the time grows with the size of
+/// not looked at. Memory is wanted for the process alone: a unit that is not enabled, or has no process, is never answered
+/// so. That it is wanted where a later call would show that the unit is not legal, and that it is wanted at all only where
+/// an allocation failed, is in no clause. A request or an activation is played from its first call to its end, so the time grows with the size of
 /// its process and with what its calls do. The caller owes that the processes are sound, with generations and last entry
 /// numbers of at most 2^63; that the unit is no notice and no expiry; and that it has at most 500 calls, each a command
 /// that a line of a session gives and that opens no frame. The processes stay sound, their numbers rise by one a call at

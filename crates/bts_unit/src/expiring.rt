@@ -1,9 +1,9 @@
 // Units without calls: timers that expire.
-ghost use Rattle.std.specs.Prelude.{◌≡◌, ◌<◌, ◌-◌, ◌^◌, true, [], IfOk, IfErr, OnOk, IsTrue};
+ghost use Rattle.std.specs.Prelude.{◌≡◌, ◌<◌, ◌+◌, ◌-◌, ◌^◌, ℕ, true, [], IfOk, IfErr, OnOk, IsTrue};
 ghost use Rattle.bts_names.specs.Named.{lookup};
 ghost use Rattle.bts_command.specs.declared.ended.End.TheVariants.{Commit};
 ghost use Rattle.bts_timer.specs.Timers.{is_unexpired_one};
-ghost use Rattle.bts_tree.specs.Soundness.{numbers_below};
+ghost use Rattle.bts_tree.specs.Soundness.{IsSoundInFrames, is_within, numbers_below};
 ghost use Rattle.bts_act.specs.Early.{has_none_early, none_early};
 ghost use Rattle.bts_unit.specs.Systems as systems;
 
@@ -30,7 +30,8 @@ fn expire(activity: &mut Activity, timer: Name16) -> Result<(), NoMemory>
 }
 
 /// Does a unit that has no calls: an expiry, which the process lets run at this moment. Of the process no event may be
-/// fired while its timer is UNEXPIRED, and in a sound one none is. Where there is no memory the process comes back.
+/// fired while its timer is UNEXPIRED, and in a sound one none is. A sound process stays sound; its generation stays, and
+/// its last entry numbers rise by one at most. Where there is no memory the process comes back.
 pub fn system(
     alloc: Global,
     scope: Scope,
@@ -45,6 +46,9 @@ pub fn system(
     ensures calls { IfOk result (λ change. change.calls ≡ []) }
     ensures end { IfOk result (λ change. change.end ≡ Commit) }
     ensures back { IfErr result (λ e. e.1 ≡ scope) }
+    ensures sound { IsSoundInFrames [] scope.process → IfOk result (λ change. IsSoundInFrames [] change.after.process) }
+    ensures within { (g n : ℕ) → IsSoundInFrames [] scope.process → is_within g n scope.process ≡ true
+        → IfOk result (λ change. is_within g (n + 1) change.after.process ≡ true) }
 {
     let UnitKind::Expiry { path, timer, .. } = unit else {
         unreachable!()

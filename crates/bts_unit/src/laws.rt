@@ -1,20 +1,30 @@
 // What units keep of their process. The functions do nothing.
-ghost use Rattle.std.specs.Prelude.{◌≡◌, ◌≤◌, ◌<◌, ◌+◌, ℕ, List, [], length, true, false};
+ghost use Rattle.std.specs.Prelude.{◌≡◌, ◌≤◌, ◌<◌, ◌+◌, ℕ, List, [], ◌∷◌, length, cond, Some, true, false};
 ghost use Rattle.std.specs.List.{AllByRecursion};
-ghost use Rattle.bts_names.specs.Names.{Name};
+ghost use Rattle.bts_names.specs.Names.{ActivityPath, Name};
+ghost use Rattle.bts_names.specs.declared.key.Key.{Key};
+ghost use Rattle.bts_command.specs.Kinds.{is_committed};
 ghost use Rattle.bts_command.specs.declared.command.Command.{Command};
+ghost use Rattle.bts_command.specs.declared.ended.Ended.{Ended};
 ghost use Rattle.bts_command.specs.declared.ended.UnitKind.{UnitKind};
-ghost use Rattle.bts_tree.specs.Processes.{Process};
-ghost use Rattle.bts_tree.specs.Soundness.{IsSoundInFrames, is_within, numbers_below};
+ghost use Rattle.bts_command.specs.declared.ended.UnitKind.TheVariants as unit;
+ghost use Rattle.bts_tree.specs.declared.activity.Activity.{Activity};
+ghost use Rattle.bts_tree.specs.Leading.{leads_from};
+ghost use Rattle.bts_tree.specs.Modes.{frame_opens};
+ghost use Rattle.bts_tree.specs.Processes.{Process, activity_at};
+ghost use Rattle.bts_tree.specs.Repositories.{Processes};
+ghost use Rattle.bts_tree.specs.Soundness.{AreSound, IsSoundInFrames, bound_of_units, is_within, numbers_below};
 ghost use Rattle.bts_rows.specs.Bounds.{is_lone, raised_by};
 ghost use Rattle.bts_command.specs.Given.{IsGiven};
 ghost use Rattle.bts_act.specs.Early.{none_early};
 ghost use Rattle.bts_unit.specs.Calls.{call, run};
 ghost use Rattle.bts_unit.specs.Ends.{abended_whole};
-ghost use Rattle.bts_unit.specs.Frames.{UnitOfWork, is_there_at, path_of, start};
+ghost use Rattle.bts_unit.specs.Frames.{OpenFrame, UnitOfWork, is_there_at, path_of, start};
 ghost use Rattle.bts_unit.specs.OneFrame.{is_of_one_frame, may_begin};
+ghost use Rattle.bts_unit.specs.Playing.{Plays, after};
+ghost use Rattle.bts_unit.specs.Refusals.{is_played};
 ghost use Rattle.bts_unit.specs.Replays.{top_path};
-ghost use Rattle.bts_unit.specs.Soundness.{IsSoundLone, IsSoundUnit, IsSoundWithin, makes_more_in};
+ghost use Rattle.bts_unit.specs.Soundness.{IsSoundLone, IsSoundUnit, IsSoundWithin, LeadsToItsEnds, makes_more_in};
 
 /// A unit that a sound process lets begin is sound: exactly the activity of its frame is ACTIVE.
 pub fn a_unit_starts_sound()
@@ -76,4 +86,25 @@ pub fn a_lone_root_stays_alone()
         → is_of_one_frame (top_path u.frames) c ≡ true → makes_more_in (top_path u.frames) c ≡ false
         → IsSoundLone u → IsSoundLone (call u c).1 }
     ensures stops { (code : Name) (u : UnitOfWork) → IsSoundLone u → IsSoundLone (abended_whole code u) }
+{}
+
+/// Behind so many committed units no generation is above their number, and no last entry number above 512 times it: a
+/// unit that plays and is committed, of at most 500 calls, makes it one unit more, and one that isn't leaves all as it is.
+pub fn a_unit_keeps_the_bound_of_units()
+    ensures { (repo : Processes) (e : Ended) (units : ℕ) → AreSound repo → Plays repo e → is_played e.unit ≡ true
+        → length e.calls ≤ 500
+        → AllByRecursion (λ c. IsGiven c.command × (is_of_one_frame (path_of e.unit) c.command ≡ true)) e.calls
+        → bound_of_units units repo ≡ true
+        → bound_of_units (cond (is_committed e) (units + 1) units) (after repo e) ≡ true }
+{}
+
+/// A frame opens from a mode that the table of the modes has for it, INITIAL or DORMANT, and each end of a frame, waiting,
+/// by RETURN or by an abend, leads from the mode that its activity has in a sound unit.
+pub fn frames_lead_from_the_modes_of_their_table()
+    ensures opens { (key : Key) (path : ActivityPath) (s : Process) (a : Activity)
+        → may_begin (unit.Activation key path) s ≡ true → activity_at path s ≡ Some a
+        → leads_from frame_opens a.mode ≡ true }
+    ensures ends { (u : UnitOfWork) (f : OpenFrame) (below : List OpenFrame) (path : ActivityPath) (a : Activity)
+        → IsSoundUnit u → u.frames ≡ f ∷ below → f.at ≡ Some path → activity_at path u.now.process ≡ Some a
+        → LeadsToItsEnds a }
 {}

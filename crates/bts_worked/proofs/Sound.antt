@@ -1,5 +1,5 @@
 -- Soundness: a small process that is sound, and others that aren't, each for one reason.
-use Rattle.std.proofs.Common.{◌≡◌, ◌≤◌, ℕ, Bool, true, false, List, [], ◌∷◌, Option, Some, None, cond, codes, refl, arith}
+use Rattle.std.proofs.Common.{◌≡◌, ◌≤◌, ◌+◌, ℕ, Bool, true, false, List, [], ◌∷◌, Option, Some, None, cond, codes, refl, ap, ◌∙◌, arith}
 use Rattle.std.specs.List.{IsDistinct}
 use Rattle.std.specs.List.Sorted.{IsStrictlySortedBy}
 use Rattle.bts_names.specs.Names.{Name, same, initial_name}
@@ -15,7 +15,8 @@ use Rattle.bts_event.specs.declared.event.Trigger.TheVariants.{Completion, Timer
 use Rattle.bts_event.specs.declared.queue.Entry.{Entry}
 use Rattle.bts_event.specs.Events.{Events}
 use Rattle.bts_event.specs.Pool.{Pool, empty_pool}
-use Rattle.bts_event.specs.Sound.{IsSoundPool, EntriesFit}
+use Rattle.bts_event.specs.Sound.{IsSoundPool, EntriesFit, one_if}
+use Rattle.bts_event.proofs.Same.{same_sym}
 use Rattle.bts_tree.specs.Activities.{Activities, new_activity, new_root}
 use Rattle.bts_tree.specs.Processes.{Process, with_containers}
 use Rattle.bts_tree.specs.Soundness.{IsSoundActivity, IsSoundInFrames, IsSoundTree}
@@ -84,6 +85,15 @@ empty = record {
   events = record { ordered = tt; few = omega arith; unnamed = refl; composites = λ c k h. cc };
   entries = λ n h. refl;
   numbers = omega arith;
+}
+
+-- an entry may have the number 0, where no higher one was given
+first_of_all : IsSoundPool (of_events [] (record { name = initial_name; number = 0 } ∷ []) 0)
+unfolding IsStrictlySortedBy
+first_of_all = record {
+  events = record { ordered = tt; few = omega arith; unnamed = refl; composites = λ c k h. cc };
+  entries = λ n other. ap (λ b. one_if b + 0) (same_sym initial_name n ∙ other);
+  numbers = (omega arith, omega arith);
 }
 
 no_containers : IsPool []
@@ -184,7 +194,7 @@ fired_without_entry : IsSoundInFrames [] (with_family same_as_it_was (λ x. reco
 fired_without_entry s = none_is_one 0 refl (s.tree.0.activities.1.0.pool.entries (codes "I"))
 
 number_above_the_last : IsSoundInFrames [] (with_family same_as_it_was (λ x. record x { pool = of_events [] (record { name = initial_name; number = 2 } ∷ []) 1 })) → ⊥
-number_above_the_last s = let e : 2 ≤ 1 = s.tree.0.activities.1.0.pool.numbers.1 in omega arith
+number_above_the_last s = let e : 3 ≤ 2 = s.tree.0.activities.1.0.pool.numbers.1 in omega arith
 
 -- a child above the number of the last one, a child that calls itself the root, and one without its completion event
 never_made : IsSoundInFrames [] (with_family (λ x. record x { made = 0 }) same_as_it_was) → ⊥

@@ -1,9 +1,11 @@
-use Rattle.std.proofs.Common.{◌^◌, ◌-◌, sym, ap, ◌∙◌}
+use Rattle.std.proofs.Common.{◌≡◌, ◌+◌, ◌^◌, ◌-◌, true, [], sym, ap, ◌∙◌, subst}
 use Rattle.bts_act.proofs.Late.{activity_none_early}
 use Rattle.bts_act.proofs.Lifts.{edit_writes, number_below}
 use Rattle.bts_tree.specs.Processes.{written}
+use Rattle.bts_tree.specs.Soundness.{IsSoundInFrames, is_within}
 use Rattle.bts_unit.specs.Standings.{moved}
 use Rattle.bts_unit.specs.Systems.{system_process, with_expired}
+use Rattle.bts_unit.proofs.Expired.{system_sound, system_within}
 use Rattle.bts_unit.proofs.expiring.system.Goals as goal
 
 pub expire-requires-clause-below : goal.expire-requires-clause-below
@@ -18,3 +20,11 @@ returns-in-Ok-expire-clause-after c =
     ap (λ a. written c.in-Expiry.path a c.args.scope.process) c.in-Ok-expire.ensures
     ∙ sym (edit_writes c.in-Expiry.path c.args.scope.process c.edit.result.now c.edit.ensures.value (with_expired c.in-Expiry.timer))
     ∙ ap (λ u. system_process u c.args.scope.process) (sym c.in-Expiry.is)
+
+pub returns-in-Ok-expire-clause-sound : goal.returns-in-Ok-expire-clause-sound
+returns-in-Ok-expire-clause-sound c = λ sound.
+    subst (IsSoundInFrames []) (sym (returns-in-Ok-expire-clause-after c)) (system_sound c.args.moment c.args.scope.process sound c.args.unit c.requires.due)
+
+pub returns-in-Ok-expire-clause-within : goal.returns-in-Ok-expire-clause-within
+returns-in-Ok-expire-clause-within c = λ g n sound w.
+    subst (λ s. is_within g (n + 1) s ≡ true) (sym (returns-in-Ok-expire-clause-after c)) (system_within c.args.moment c.args.scope.process sound g n w c.args.unit c.requires.due)
