@@ -1,5 +1,6 @@
 mod Alike
 pub mod Dates
+pub mod Days
 pub mod Months
 pub mod MomentLaws
 pub mod Texts
