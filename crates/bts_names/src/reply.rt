@@ -3,6 +3,7 @@ ghost use Rattle.std.specs.Prelude.{◌≡◌, Some};
 ghost use Rattle.bts_names.specs.Vocabulary.{resp_word, resp_number, resps, reason_word, reason_number, reasons, at_number, at_word};
 
 use crate::{Abcode, Blob, EventKind, Mode, Name16, Path, Status, TimerStatus};
+use thiserror::Error;
 
 /// The response to a command.
 #[derive(Clone, Copy, Debug, PartialEq, Eq)]
@@ -86,8 +87,9 @@ impl Resp {
     }
 }
 
-/// Why a command was refused; None where it was not.
-#[derive(Clone, Copy, Debug, PartialEq, Eq)]
+/// Why a command was refused; None where it was not. It is shown as its word.
+#[derive(Clone, Copy, Debug, PartialEq, Eq, Error)]
+#[error("{}", self.word())]
 pub enum Reason {
     None,
     Place,
