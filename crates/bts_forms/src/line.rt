@@ -45,33 +45,46 @@ pub enum Setting {
 }
 
 /// Why a line is refused.
-#[derive(Clone, Copy, Debug, PartialEq, Eq)]
+#[derive(Clone, Copy, Debug, PartialEq, Eq, Error)]
 pub enum Word {
     /// The text is too long.
+    #[error("Long")]
     Long,
     /// A byte is no printable character of ASCII.
+    #[error("Character")]
     Character,
     /// The line has no form.
+    #[error("Word")]
     Word,
     /// The form is one that isn't let through yet.
+    #[error("NotYet")]
     NotYet,
     /// The form doesn't belong there.
+    #[error("Place")]
     Place,
     /// An argument is no name, or no path.
+    #[error("Name")]
     Name,
     /// An argument is no number.
+    #[error("Number")]
     Number,
     /// An argument is no moment.
+    #[error("Moment")]
     Moment,
     /// An argument is no literal.
+    #[error("Literal")]
     Literal,
     /// An argument is none of the words that may stand there.
+    #[error("Known")]
     Known,
     /// The name was there before.
+    #[error("Twice")]
     Twice,
     /// The block doesn't hold the label.
+    #[error("Label")]
     Label,
     /// The block isn't closed.
+    #[error("Open")]
     Open,
 }
 
