@@ -20,7 +20,7 @@ use Rattle.bts_forms.proofs.Today.{in_define_process, in_acquire_process, in_acq
 
 -- ---- what holds of all that a form or a table says
 
-abbrev OnLine : (Line → Type 0) → Option (Result Line Word) → Type 0
+abbrev pub OnLine : (Line → Type 0) → Option (Result Line Word) → Type 0
 OnLine P None = Unsaid
 OnLine P (Some (Err why)) = Unsaid
 OnLine P (Some (Ok l)) = P l
@@ -30,12 +30,12 @@ Holds P None = Unsaid
 Holds P (Some (at, passes, Err why)) = Unsaid
 Holds P (Some (at, passes, Ok l)) = P passes l
 
-next_holds : (P : Bool → Line → Type 0) (at : Setting) (passes : Bool) (others : Option Saying) (said : Option (Result Line Word)) → OnLine (P passes) said → Holds P others → Holds P (or_next at passes others said)
+pub next_holds : (P : Bool → Line → Type 0) (at : Setting) (passes : Bool) (others : Option Saying) (said : Option (Result Line Word)) → OnLine (P passes) said → Holds P others → Holds P (or_next at passes others said)
 next_holds P at passes others None h more = more
 next_holds P at passes others (Some (Err why)) h more = record {}
 next_holds P at passes others (Some (Ok l)) h more = h
 
-either_holds : (P : Bool → Line → Type 0) (x y : Option Saying) → Holds P x → Holds P y → Holds P (or_else x y)
+pub either_holds : (P : Bool → Line → Type 0) (x y : Option Saying) → Holds P x → Holds P y → Holds P (or_else x y)
 either_holds P None y h more = more
 either_holds P (Some (at, passes, Err why)) y h more = record {}
 either_holds P (Some (at, passes, Ok l)) y h more = h
@@ -48,7 +48,7 @@ whole_line P f (Some (Err why, b ∷ bs)) h = record {}
 whole_line P f (Some (Ok x, [])) h = h
 whole_line P f (Some (Ok x, b ∷ bs)) h = record {}
 
-reads_whole : {A : Type 0} (P : Line → Type 0) (f : A → Line) (p : Piece A) (text : Bytes) → Of (λ x. P (f x)) (p text) → OnLine P (reads_by f p text)
+pub reads_whole : {A : Type 0} (P : Line → Type 0) (f : A → Line) (p : Piece A) (text : Bytes) → Of (λ x. P (f x)) (p text) → OnLine P (reads_by f p text)
 unfolding reads_by
 reads_whole P f p text h = whole_line P f (p text) h
 

@@ -3,3 +3,4 @@ pub mod Forms
 pub mod Pieces
 pub mod Texts
 pub mod Today
+pub mod Sizes
