@@ -1,5 +1,7 @@
 mod Ends
 pub mod FirstLines
+pub mod Kept
 mod Labels
+pub mod Short
 mod Statements
 pub mod Today

@@ -4,7 +4,8 @@ use Rattle.bts_forms.specs.Today.{IsOfToday}
 use Rattle.bts_script.specs.Blocks.{block_of, numbered}
 use Rattle.bts_script.specs.Lines.{lines_of}
 use Rattle.bts_script.proofs.Statements.{begun, refused, told, ended}
-use Rattle.bts_script.proofs.Today.{given_today, script_today}
+use Rattle.bts_script.proofs.Kept.{given_holds}
+use Rattle.bts_script.proofs.Today.{script_today}
 use Rattle.bts_script.proofs.blocks.read_block.Goals as goal
 
 pub loop-next-init : goal.loop-next-init
@@ -25,5 +26,5 @@ returns-clause-said c = ended c.loop-next.block c.loop-next.number c.loop-next.r
 
 pub returns-clause-today : goal.returns-clause-today
 returns-clause-today c =
-    given_today (AllByRecursion IsOfToday) (Ok c.loop-next.block.script) (block_of c.args.place c.args.first (lines_of c.args.text.now)) (returns-clause-said c)
+    given_holds (AllByRecursion IsOfToday) (Ok c.loop-next.block.script) (block_of c.args.place c.args.first (lines_of c.args.text.now)) (returns-clause-said c)
     (script_today c.args.place (numbered c.args.first (lines_of c.args.text.now)))
