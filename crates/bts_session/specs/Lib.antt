@@ -1,3 +1,4 @@
 pub mod Reading
 pub mod Sessions
 pub mod Today
+pub mod Sizes

@@ -2,9 +2,11 @@
 #![tactic(auto)]
 
 mod block;
+mod laws;
 mod reading;
 mod session;
 
+pub use laws::what_a_session_gives_is_short;
 pub use reading::read_session;
 pub use session::{Item, Items, Session};
 
