@@ -22,6 +22,7 @@ use Rattle.bts_forms.specs.Forms.{Form, Saying, forms, form_of, reads_by, comman
 use Rattle.bts_forms.specs.Sizes.{IsShort, IsShortLine, said_bytes}
 use Rattle.bts_forms.proofs.AllForms.{Holds, next_holds, either_holds, reads_whole}
 use Rattle.bts_forms.proofs.Saying.{Of, Always, Behind, Unsaid, With, saying, anything, with_argument, ◌▸▸◌, ◌▹▹◌}
+use Rattle.bts_forms.proofs.ShortCommands.{PutsAtMost, in_define_process, in_acquire_process, in_acquire_activity, in_purge_process, in_define_activity, in_delete_activity, in_run, in_link, in_check, in_cancel, in_reset, in_suspend, in_resume, in_get_container, in_delete_container, in_define_input, in_define_composite, in_add_subevent, in_remove_subevent, in_delete_event, in_test_event, in_retrieve_reattach, in_retrieve_subevent, in_define_timer, in_force_timer, in_check_timer, in_delete_timer, in_plain_return, in_return_ending, in_abend, in_rollback}
 use Rattle.bts_forms.proofs.Short.{AtMost, Shortens, first, closed_short, either_short, given_short, last_argument_short, quoted_short, says_short, then_short, ◌▸≤◌, ◌▹≤◌}
 use Rattle.bts_forms.proofs.Tables.{form_of_both}
 
@@ -140,13 +141,9 @@ both : {m : ℕ} {first second : List Form} → AreShort m first → AreShort m 
 both {m} {first} {second} h more =
     record { on = λ text k. rw (form_of_both first second text) (either_holds (λ passes l. IsShortLine m l) (form_of first text) (form_of second text) (h.on text k) (more.on text k)) }
 
-no_put : (m : ℕ) (said : Said Command) → Of (λ c. IsShortLine m (command_of c)) said
-no_put m None = record {}
-no_put m (Some (Err why, rest)) = record {}
-no_put m (Some (Ok c, rest)) = tt
-
-calls : {m : ℕ} {fs : List Form} (at : Setting) (through : Bytes → Bool) (p : Piece Command) → AreShort m fs → AreShort m (record { belongs = at; lets_through = through; reads = reads_by command_of p } ∷ fs)
-calls {m} at through p more = with_form at through command_of p (λ text k. no_put m (p text)) more
+calls : {m : ℕ} {fs : List Form} (at : Setting) (through : Bytes → Bool) (p : Piece Command) → Always (PutsAtMost m) p → AreShort m fs
+    → AreShort m (record { belongs = at; lets_through = through; reads = reads_by command_of p } ∷ fs)
+calls at through p h more = with_form at through command_of p (λ text k. h.on text) more
 
 says_none : {m : ℕ} {fs : List Form} (at : Setting) (through : Bytes → Bool) (p : Piece Line) → Always (IsShortLine m) p → AreShort m fs
     → AreShort m (record { belongs = at; lets_through = through; reads = reads_by (λ x. x) p } ∷ fs)
@@ -205,25 +202,25 @@ in_script m =
     gives _ _ label_line (λ text _. (in_label m).on text) (gives _ _ goto_line (λ text _. (in_goto m).on text) (gives _ _ when_line (λ text _. (in_when m).on text) no_forms))
 
 in_process : (m : ℕ) → AreShort m process_forms
-in_process m = calls _ _ _ (calls _ _ _ (calls _ _ _ (calls _ _ _ no_forms)))
+in_process m = calls _ _ _ (in_define_process m) (calls _ _ _ (in_acquire_process m) (calls _ _ _ (in_acquire_activity m) (calls _ _ _ (in_purge_process m) no_forms)))
 
 in_activity : (m : ℕ) → AreShort m activity_forms
-in_activity m = calls _ _ _ (calls _ _ _ (calls _ _ _ (calls _ _ _ (calls _ _ _ (calls _ _ _ (calls _ _ _ (calls _ _ _ (calls _ _ _ no_forms))))))))
+in_activity m = calls _ _ _ (in_define_activity m) (calls _ _ _ (in_delete_activity m) (calls _ _ _ (in_run m) (calls _ _ _ (in_link m) (calls _ _ _ (in_check m) (calls _ _ _ (in_cancel m) (calls _ _ _ (in_reset m) (calls _ _ _ (in_suspend m) (calls _ _ _ (in_resume m) no_forms))))))))
 
 in_container : (m : ℕ) → fill_limit ≤ m → AreShort m container_forms
-in_container m fill = gives _ _ put_container (λ text h. put_short m text fill h) (calls _ _ _ (calls _ _ _ no_forms))
+in_container m fill = gives _ _ put_container (λ text h. put_short m text fill h) (calls _ _ _ (in_get_container m) (calls _ _ _ (in_delete_container m) no_forms))
 
 in_early_event : (m : ℕ) → AreShort m early_event_forms
-in_early_event m = calls _ _ _ (calls _ _ _ no_forms)
+in_early_event m = calls _ _ _ (in_define_input m) (calls _ _ _ (in_define_composite m) no_forms)
 
 in_late_event : (m : ℕ) → AreShort m late_event_forms
-in_late_event m = calls _ _ _ (calls _ _ _ (calls _ _ _ (calls _ _ _ (calls _ _ _ (calls _ _ _ no_forms)))))
+in_late_event m = calls _ _ _ (in_add_subevent m) (calls _ _ _ (in_remove_subevent m) (calls _ _ _ (in_delete_event m) (calls _ _ _ (in_test_event m) (calls _ _ _ (in_retrieve_reattach m) (calls _ _ _ (in_retrieve_subevent m) no_forms)))))
 
 in_timer : (m : ℕ) → AreShort m timer_forms
-in_timer m = calls _ _ _ (calls _ _ _ (calls _ _ _ (calls _ _ _ no_forms)))
+in_timer m = calls _ _ _ (in_define_timer m) (calls _ _ _ (in_force_timer m) (calls _ _ _ (in_check_timer m) (calls _ _ _ (in_delete_timer m) no_forms)))
 
 in_ending : (m : ℕ) → AreShort m ending_forms
-in_ending m = calls _ _ _ (calls _ _ _ (calls _ _ _ (calls _ _ _ no_forms)))
+in_ending m = calls _ _ _ (in_plain_return m) (calls _ _ _ (in_return_ending m) (calls _ _ _ (in_abend m) (calls _ _ _ (in_rollback m) no_forms)))
 
 in_forms : (m : ℕ) → fill_limit ≤ m → AreShort m forms
 in_forms m fill =

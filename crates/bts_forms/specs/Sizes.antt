@@ -1,5 +1,6 @@
 -- How many bytes a line gives a container.
 use Rattle.std.specs.Prelude.{ℕ, ◌≤◌, length}
+use Rattle.bts_command.specs.Sizes.{put_bytes}
 use Rattle.bts_forms.specs.declared.statement.Given.{Given}
 use Rattle.bts_forms.specs.declared.statement.Given.TheVariants.{Literal, Fill, Last}
 use Rattle.bts_forms.specs.declared.statement.Statement.{Statement}
@@ -16,7 +17,7 @@ said_bytes Last = 0
 -- a statement that gives no more bytes than so many
 abbrev pub IsShort : ℕ → Statement → Type 0
 IsShort most (statement.Put container place given) = said_bytes given ≤ most
-IsShort most (statement.Command c) = Unit {0}
+IsShort most (statement.Command c) = put_bytes c ≤ most
 IsShort most (statement.Label label) = Unit {0}
 IsShort most (statement.Goto label) = Unit {0}
 IsShort most (statement.When cond label) = Unit {0}
