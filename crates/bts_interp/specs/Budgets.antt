@@ -3,7 +3,7 @@ use Rattle.std.specs.Prelude.{ℕ, ◌+◌, ◌-◌, min, cond, nat_le, nat_lt, 
 use Rattle.std.specs.List.{sum_by}
 use Rattle.bts_names.specs.declared.reply.Value.{Value}
 use Rattle.bts_names.specs.declared.reply.Value.TheVariants as value
-use Rattle.bts_command.specs.Sizes.{put_bytes}
+use Rattle.bts_command.specs.Sizes.{data_bytes}
 use Rattle.bts_command.specs.declared.command.Call.{Call}
 use Rattle.bts_command.specs.declared.ended.End.{End}
 use Rattle.bts_command.specs.declared.ended.End.TheVariants.{Abend}
@@ -20,17 +20,6 @@ abbrev pub data_limit : ℕ
 data_limit = 8_388_608
 
 -- ---- what calls use
-
-abbrev pub got_bytes : Value → ℕ
-got_bytes (value.Bytes bytes) = length bytes
-got_bytes _ = 0
-
--- the bytes of data of a call, also of one that was refused
-abbrev pub call_bytes : Call → ℕ
-call_bytes c = put_bytes c.command + got_bytes c.reply.value
-
-abbrev pub data_bytes : List Call → ℕ
-data_bytes calls = sum_by call_bytes calls
 
 abbrev pub count_of : Option Reached → ℕ
 count_of None = 0

@@ -32,3 +32,4 @@ pub mod Grows
 pub mod GrowthRows
 pub mod Bounds
 pub mod Repositories
+pub mod Values

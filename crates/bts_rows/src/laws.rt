@@ -1,5 +1,5 @@
 // What holds of every command, in whatever frame it stands.
-ghost use Rattle.std.specs.Prelude.{◌≡◌, ℕ, ◌+◌, List, [], Option, Some, IsSome, true, false};
+ghost use Rattle.std.specs.Prelude.{◌≡◌, ◌≤◌, ℕ, ◌+◌, List, [], Option, Some, IsSome, true, false};
 ghost use Rattle.std.specs.List.{list_any};
 ghost use Rattle.std.specs.List.Sorted.{IsStrictlySortedBy};
 ghost use Rattle.std.specs.Map.{keys_of};
@@ -9,7 +9,9 @@ ghost use Rattle.bts_names.specs.Answer.{left_by, reply_of};
 ghost use Rattle.bts_names.specs.Names.{ActivityPath, Name, same};
 ghost use Rattle.bts_names.specs.declared.state.Mode.TheVariants.{Initial};
 ghost use Rattle.bts_command.specs.declared.command.Command.{Command};
+ghost use Rattle.bts_command.specs.Sizes.{got_bytes};
 ghost use Rattle.bts_command.specs.declared.command.Target.{Target};
+ghost use Rattle.bts_container.specs.Containers.{size_limit};
 ghost use Rattle.bts_tree.specs.declared.activity.Activity.{Activity};
 ghost use Rattle.bts_tree.specs.Activities.{is_complete, new_activity};
 ghost use Rattle.bts_tree.specs.Leading.{leads_from};
@@ -29,6 +31,12 @@ ghost use Rattle.bts_rows.specs.declared.held.Held.{Held};
 pub fn replies_say_why()
     ensures { (here : Here) (held : Held) (depth now : ℕ) (s : Process) (c : Command)
         → IsProper (reply_of (answer here held depth now s c)) }
+{}
+
+/// A command on a sound process is answered with no more bytes than a container may have.
+pub fn what_is_answered_is_short()
+    ensures { (frames : List ActivityPath) (here : Here) (held : Held) (depth now : ℕ) (s : Process) (c : Command)
+        → IsSoundInFrames frames s → got_bytes (reply_of (answer here held depth now s c)).value ≤ size_limit }
 {}
 
 /// A command that isn't answered NORMAL leaves the process, and what the request has acquired, as they were.

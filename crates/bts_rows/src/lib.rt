@@ -14,5 +14,5 @@ pub use laws::{
     a_frame_reads_its_part, a_refused_command_changes_nothing,
     commands_of_a_request_keep_soundness, commands_of_one_activity_keep_soundness,
     numbers_rise_by_one, only_definitions_make_more, replies_say_why,
-    rows_lead_from_the_modes_of_their_table,
+    rows_lead_from_the_modes_of_their_table, what_is_answered_is_short,
 };
