@@ -16,3 +16,4 @@ pub mod AtEnd
 mod Committed
 mod Expired
 mod Leading
+pub mod ShortReplies

@@ -4,6 +4,8 @@ ghost use Rattle.std.specs.List.{AllByRecursion};
 ghost use Rattle.bts_names.specs.Names.{ActivityPath, Name};
 ghost use Rattle.bts_names.specs.declared.key.Key.{Key};
 ghost use Rattle.bts_command.specs.Kinds.{is_committed};
+ghost use Rattle.bts_command.specs.Sizes.{got_bytes};
+ghost use Rattle.bts_container.specs.Containers.{size_limit};
 ghost use Rattle.bts_command.specs.declared.command.Command.{Command};
 ghost use Rattle.bts_command.specs.declared.ended.Ended.{Ended};
 ghost use Rattle.bts_command.specs.declared.ended.UnitKind.{UnitKind};
@@ -59,6 +61,11 @@ pub fn an_ended_unit_leaves_a_sound_process()
 pub fn a_sound_unit_goes_on()
     ensures there { (u : UnitOfWork) → IsSoundUnit u → is_there_at (top_path u.frames) u.now.process ≡ true }
     ensures late { (u : UnitOfWork) → IsSoundUnit u → none_early u.now.process ≡ true }
+{}
+
+/// A call of a sound unit is answered with no more bytes than a container may have.
+pub fn replies_are_short()
+    ensures { (u : UnitOfWork) (c : Command) → IsSoundUnit u → got_bytes (call u c).0.value ≤ size_limit }
 {}
 
 /// The last entry numbers of a unit's process rise by one with each call at most, and stay where all frames abend. Its
