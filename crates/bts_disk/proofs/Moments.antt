@@ -1,11 +1,11 @@
 -- What a call of a disk in memory does to its images, now and since a moment.
-use Rattle.std.proofs.Common.{◌≡◌, inl, inr, ⊎_elim, ℕ, Bool, true, false, List, [], ◌∷◌, ◌++◌, length, refl, ap, sym, ◌∙◌, subst, arith, length-append, not, Some, Result, Ok, Err, OnOk, OnErr}
+use Rattle.std.proofs.Common.{◌≡◌, inl, inr, ⊎_elim, ℕ, Bool, true, false, List, [], ◌∷◌, ◌++◌, ◌≤◌, length, refl, ap, sym, ◌∙◌, subst, arith, length-append, not, Some, Result, Ok, Err, OnOk, OnErr}
 use Rattle.std.proofs.lemmas.List.{take_all, take-append-le}
 use Rattle.std.proofs.lemmas.Bool.{cases_lt}
 use Rattle.bts_names.specs.Names.{Bytes}
 use Rattle.bts_disk.specs.Disks.{written, Torn, Follows, Only, SameImages, Elapses}
-use Rattle.bts_disk.specs.Memory.{Recorded, content_of, StartWithin, StartsWithin, Leave, IsOrHas, IsImage, moment_of, WasImage, with_call, sync_call, Records}
-use Rattle.bts_disk.specs.MemoryLaws.{Torn-none, leave-last, leave-more, content-last, within-last, shows_image}
+use Rattle.bts_disk.specs.Memory.{Recorded, content_behind, content_of, StartWithin, StartsWithin, Leave, IsOrHas, IsImage, moment_of, WasImage, with_call, sync_call, Records}
+use Rattle.bts_disk.specs.MemoryLaws.{Torn-none, Torn-written, leave-last, leave-more, content-last, within-last, shows_image}
 use Rattle.bts_disk.specs.declared.device_call.DeviceCall.{DeviceCall}
 use Rattle.bts_disk.specs.declared.device_call.DeviceCall.TheVariants.{Idle, Write, Sync}
 
@@ -76,6 +76,19 @@ write_follows done at bytes old new so =
     (λ (r : Recorded). Follows (Torn at (length bytes)) (IsImage old) (IsImage r))
     (λ i left. (i, left, Torn-none at (length bytes) i))
     (λ i left. leave-last old.first old.first old.calls (Write done at bytes) i left)
+
+-- what a write leaves of the content, done or not
+behind_torn : (done : Bool) (at : ℕ) (bytes c : Bytes) → at ≤ length c → Torn at (length bytes) c (content_behind c (Write done at bytes))
+behind_torn true at bytes c fits = Torn-written at bytes c fits
+behind_torn false at bytes c fits = Torn-none at (length bytes) c
+
+pub write_torn : (done : Bool) (at : ℕ) (bytes : Bytes) (old new : Recorded) → IsOrHas (Write done at bytes) old new → at ≤ length (content_of old) → Torn at (length bytes) (content_of old) (content_of new)
+write_torn done at bytes old new so fits =
+    let before = content_of old in
+    by_both (Write done at bytes) old new so
+    (λ (r : Recorded). Torn at (length bytes) before (content_of r))
+    (Torn-none at (length bytes) before)
+    (subst (λ (c : Bytes). Torn at (length bytes) before c) (sym (content-last old.first old.calls (Write done at bytes))) (behind_torn done at bytes before fits))
 
 sync_only : (r : Recorded) → Only (content_of r) (IsImage (with_call Sync r))
 sync_only r i left = leave-last r.first r.first r.calls Sync i left

@@ -1,7 +1,7 @@
 // A disk: what it reads, what a crash may leave, and how often it failed.
 ghost use Rattle.std.specs.Prelude.{◌≡◌, ◌≤◌, ◌+◌, ◌^◌, ℕ, Some, List, Option, IfOk, OnOk, OnErr, IfSome, length, slice_range};
 ghost use Rattle.std.specs.Option.{option_map};
-ghost use Rattle.bts_io.specs.Faults.{HasCause, last_count};
+ghost use Rattle.bts_io.specs.Faults.{HasCause, last_count, next_count};
 ghost use Rattle.bts_disk.specs.Disks.{written, Torn, Follows, Only, SameImages, Elapses, EndsAtLast, TellsAsBefore};
 
 use thiserror::Error;
@@ -17,6 +17,8 @@ pub struct DiskFail;
 /// succeeded each written range, and what lies past the old end, may hold any bytes in an image, its length
 /// is between the old and the new one, and bytes outside stay. A disk that tells nothing of its bytes has
 /// None for its content and no image.
+///
+/// `len`, `read`, `write_at` and `sync` are the device calls, and each counts as one, also where it fails.
 pub trait Disk {
     /// What a read gives, where the disk tells it.
     ghost content: { Self → Option (List ℕ) };
@@ -33,6 +35,9 @@ pub trait Disk {
     /// How often the disk has failed, up to 2^64 - 1.
     ghost faults: { Self → ℕ };
 
+    /// How many of the four device calls there were, up to 2^64 - 1.
+    ghost calls: { Self → ℕ };
+
     /// The length of the content.
     fn len(&mut self) -> Result<u64, DiskFail>
         ensures length { IfOk result (λ n. IfSome (content self.old) (λ c. n ≡ length c)) }
@@ -40,7 +45,8 @@ pub trait Disk {
         ensures images { SameImages (may_leave self.old) (may_leave self.new) }
         ensures time { Elapses (moment self.old) (moment self.new) (left_since self.old) (left_since self.new) (may_leave self.old) (may_leave self.new) }
         ensures cause { HasCause (faults self.old) (faults self.new) result }
-        ensures last { EndsAtLast (moment self.old) (moment self.new) (faults self.new) result };
+        ensures last { EndsAtLast (moment self.old) (moment self.new) (faults self.new) result }
+        ensures calls { calls self.new ≡ next_count (calls self.old) };
 
     /// Fills `into` with the content from the offset `at` on. The caller owes that it reaches so far.
     fn read(&mut self, at: u64, into: &mut [u8]) -> Result<(), DiskFail>
@@ -50,19 +56,23 @@ pub trait Disk {
         ensures images { SameImages (may_leave self.old) (may_leave self.new) }
         ensures time { Elapses (moment self.old) (moment self.new) (left_since self.old) (left_since self.new) (may_leave self.old) (may_leave self.new) }
         ensures cause { HasCause (faults self.old) (faults self.new) result }
-        ensures last { EndsAtLast (moment self.old) (moment self.new) (faults self.new) result };
+        ensures last { EndsAtLast (moment self.old) (moment self.new) (faults self.new) result }
+        ensures calls { calls self.new ≡ next_count (calls self.old) };
 
     /// Puts the bytes at the offset `at`, and grows the content where they reach past its end. The caller
-    /// owes that `at` isn't past it. A write that failed may have left anything in its range too.
+    /// owes that `at` isn't past it. A write that failed may have left anything in its range, and the length
+    /// anywhere between the old and the new one; the bytes outside of the range are as they were.
     fn write_at(&mut self, at: u64, bytes: &[u8]) -> Result<(), DiskFail>
         requires place { IfSome (content self.old) (λ c. at ≤ length c) }
         requires room { at + length bytes.now ≤ 2 ^ 63 }
         ensures written { OnOk result (content self.new ≡ option_map (written at bytes.now) (content self.old)) }
+        ensures torn { IfSome (content self.old) (λ c. IfSome (content self.new) (λ d. Torn at (length bytes.now) c d)) }
         ensures told { TellsAsBefore (content self.old) (content self.new) }
         ensures images { Follows (Torn at (length bytes.now)) (may_leave self.old) (may_leave self.new) }
         ensures time { Elapses (moment self.old) (moment self.new) (left_since self.old) (left_since self.new) (may_leave self.old) (may_leave self.new) }
         ensures cause { HasCause (faults self.old) (faults self.new) result }
         ensures last { EndsAtLast (moment self.old) (moment self.new) (faults self.new) result }
+        ensures calls { calls self.new ≡ next_count (calls self.old) }
         ensures last_content { moment self.old ≡ last_count → content self.new ≡ content self.old }
         ensures last_images { moment self.old ≡ last_count → SameImages (may_leave self.old) (may_leave self.new) };
 
@@ -74,9 +84,10 @@ pub trait Disk {
         ensures images { (c : List ℕ) → may_leave self.new c → may_leave self.old c }
         ensures time { Elapses (moment self.old) (moment self.new) (left_since self.old) (left_since self.new) (may_leave self.old) (may_leave self.new) }
         ensures cause { HasCause (faults self.old) (faults self.new) result }
-        ensures last { EndsAtLast (moment self.old) (moment self.new) (faults self.new) result };
+        ensures last { EndsAtLast (moment self.old) (moment self.new) (faults self.new) result }
+        ensures calls { calls self.new ≡ next_count (calls self.old) };
 
-    /// The disk's moment. It isn't a device call, never fails and takes no memory.
+    /// The disk's moment. It isn't a device call, is counted by nothing, never fails and takes no memory.
     fn device_moment(&self) -> u64
         ensures { result ≡ moment self.now };
 

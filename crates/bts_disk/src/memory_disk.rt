@@ -111,6 +111,8 @@ impl Disk for MemoryDisk {
 
     ghost faults = { λ d. d.plan.faults };
 
+    ghost calls = { λ d. d.calls };
+
     ghost shows = { λ d. shows_image d.recording d.within };
 
     ghost counts_now = { λ d. counts_image_now d.recording };
@@ -156,6 +158,7 @@ impl Disk for MemoryDisk {
         requires place { at ≤ length (content_of self.old.recording) }
         requires room { at + length bytes.now ≤ 2 ^ 63 }
         ensures written { OnOk result (Some (content_of self.new.recording) ≡ Some (written at bytes.now (content_of self.old.recording))) }
+        ensures torn { Torn at (length bytes.now) (content_of self.old.recording) (content_of self.new.recording) }
         ensures images { Follows (Torn at (length bytes.now)) (IsImage self.old.recording) (IsImage self.new.recording) }
         ensures time { Elapses (moment_of self.old.recording) (moment_of self.new.recording) (WasImage self.old.recording) (WasImage self.new.recording) (IsImage self.old.recording) (IsImage self.new.recording) }
         ensures cause { HasCause self.old.plan.faults self.new.plan.faults result }

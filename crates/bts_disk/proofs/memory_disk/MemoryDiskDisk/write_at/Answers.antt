@@ -2,7 +2,7 @@ use Rattle.std.proofs.Common.{not, rules}
 use Rattle.bts_io.specs.Plan.{is_next_failing}
 use Rattle.bts_disk.specs.Memory.{Records}
 use Rattle.bts_disk.specs.declared.device_call.DeviceCall.TheVariants.{Write}
-use Rattle.bts_disk.proofs.Moments.{write_content, write_follows, elapses, within}
+use Rattle.bts_disk.proofs.Moments.{write_content, write_follows, write_torn, elapses, within}
 use Rattle.bts_disk.proofs.memory_disk.MemoryDiskDisk.write_at.Goals as goal
 
 pub invariant_of-self-clause-within : goal.invariant_of-self-clause-within
@@ -19,3 +19,6 @@ returns-clause-images c = write_follows _ _ _ _ _ c.write-recorded.ensures.kept
 
 pub returns-clause-time : goal.returns-clause-time
 returns-clause-time c = elapses _ _ _ c.write-recorded.ensures.kept
+
+pub returns-clause-torn : goal.returns-clause-torn
+returns-clause-torn c = write_torn _ _ _ _ _ c.write-recorded.ensures.kept c.requires.place
