@@ -5,8 +5,11 @@ pub mod CommandFormats
 pub mod Decoded
 pub mod Examples
 pub mod FieldFormats
+pub mod Lengths
 pub mod Loops
 pub mod OneForm
 pub mod Options
+pub mod PayloadLengths
 pub mod ReplyFormats
+pub mod StoredUnits
 pub mod UnitFormats

@@ -8,7 +8,7 @@ use Rattle.bts_codec.specs.Laws.{IsFormat}
 use Rattle.bts_codec.proofs.Options.{first_is, second_is}
 
 -- the bytes of a small number, and those of a great one
-small_bytes : (most n : ℕ) → n < 128 → number_bytes (suc most) n ≡ n ∷ []
+pub small_bytes : (most n : ℕ) → n < 128 → number_bytes (suc most) n ≡ n ∷ []
 unfolding number_bytes
 small_bytes most n h = rw (number_bytes, lt-ltb n 128 h) refl
 

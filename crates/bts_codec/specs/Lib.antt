@@ -5,3 +5,4 @@ pub mod Commands
 pub mod Replies
 pub mod Units
 pub mod Answers
+pub mod Sizes

@@ -1,9 +1,10 @@
 // Payloads of units, whole.
-ghost use Rattle.std.specs.Prelude.{◌≡◌, ◌↔◌, IsTrue, IfOk, Some};
+ghost use Rattle.std.specs.Prelude.{◌≡◌, ◌↔◌, ◌≤◌, ◌<◌, ◌+◌, ◌*◌, ◌^◌, IsTrue, IfOk, Some, length};
 ghost use Rattle.bts_names.specs.Names.{Bytes};
 ghost use Rattle.bts_command.specs.declared.ended.Ended.{Ended};
 ghost use Rattle.bts_codec.specs.Units.{unit, is_unit, payload, unit_in};
 ghost use Rattle.bts_codec.specs.Laws.{NoPrefix};
+ghost use Rattle.bts_codec.specs.Sizes.{calls_data, most_around, most_of_call, IsStored};
 ghost use Rattle.bts_codec.specs.Answers.{Decodes, IsPayload, IfMalformed};
 
 use crate::DecodeError;
@@ -47,6 +48,7 @@ pub fn decode(alloc: Global, bytes: &[u8]) -> Result<Ended, DecodeError>
     ensures found { IfOk result (λ ended. IsPayload ended bytes.now) }
     ensures malformed { IfMalformed result ((e : Ended) → IsPayload e bytes.now → ⊥) }
     ensures value { Decodes result (unit_in bytes.now) }
+    ensures stored { IfOk result (λ ended. IsStored ended) }
 {
     whole_unit(alloc, bytes)
 }
@@ -60,4 +62,17 @@ pub fn reads_what_is_spelled()
 /// No unit's payload begins the payload of another.
 pub fn no_payload_begins_another()
     ensures { NoPrefix unit }
+{}
+
+/// A payload is longer than the data that its calls put and got by 466 bytes and 664 a call at most. So one of
+/// calls that carry less than 2^30 bytes fits into a record, whose length is below 2^31.
+pub fn payloads_are_short()
+    ensures bound { (e : Ended) → IsTrue (is_unit e) → length (payload e) ≤ most_around + most_of_call * length e.calls + calls_data e.calls }
+    ensures fits { (e : Ended) → IsTrue (is_unit e) → calls_data e.calls < 2 ^ 30 → length (payload e) < 2 ^ 31 }
+{}
+
+/// A unit that has a payload has at most 500 calls, each of a command that a line of a session gives, and a
+/// number of at most 2^40.
+pub fn stored_units_are_given()
+    ensures { (e : Ended) → IsTrue (is_unit e) → IsStored e }
 {}

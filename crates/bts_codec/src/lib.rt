@@ -15,7 +15,10 @@ mod strings;
 mod units;
 mod words;
 
-pub use codec::{decode, encode, no_payload_begins_another, reads_what_is_spelled};
+pub use codec::{
+    decode, encode, no_payload_begins_another, payloads_are_short, reads_what_is_spelled,
+    stored_units_are_given,
+};
 pub use decode_error::DecodeError;
 
 #[cfg(test)]
