@@ -40,7 +40,8 @@ fn whole_unit(alloc: Global, bytes: &[u8]) -> Result<Ended, DecodeError>
     Ok(ended)
 }
 
-/// The unit whose payload these bytes are. Malformed comes exactly where they are no unit's payload.
+/// The unit whose payload these bytes are. Malformed comes only where they are no unit's payload. Where memory
+/// runs out before that is seen NoMemory is told in its place, so it says nothing of the bytes.
 ///
 /// The bytes are read in place, each once, and only the data of containers, the names of sub-events and
 /// the list of calls are copied: time and memory are linear in the length.

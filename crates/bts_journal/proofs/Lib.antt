@@ -2,6 +2,7 @@ pub mod Fronts
 pub mod Parts
 pub mod Cuts
 pub mod Leaves
+pub mod Writing
 pub mod SoFar
 pub mod OneReading
 pub mod Grown

@@ -1,7 +1,7 @@
 // Reading the units of a file.
 ghost use Rattle.std.specs.Prelude.{◌≡◌, ◌≤◌, ◌+◌, ◌^◌, ◌<◌, ℕ, List, Some, length, IfOk, IfErr, OnOk, IfSome};
 ghost use Rattle.bts_io.specs.Faults.{Rose};
-ghost use Rattle.bts_disk.specs.Disks.{Only, LeavesOnly};
+ghost use Rattle.bts_disk.specs.Disks.{Only, LeavesOnly, MakesCalls, behind_calls};
 ghost use Rattle.bts_journal.specs.Gates.{HasGate};
 ghost use Rattle.bts_journal.specs.Units.{HoldsUnits, IsFirstBad};
 ghost use Rattle.bts_command.specs.declared.ended.Ended.{Ended};
@@ -14,9 +14,9 @@ use bts_codec::{DecodeError, decode};
 use bts_disk::Disk;
 use std::alloc::Global;
 
-/// Reads the units of a file, and makes it ready for appends. It syncs first, so that what is read is what
-/// stays, and writes nothing. The file is read in one piece; time and memory are linear in its length. Where
-/// it isn't opened the disk comes back.
+/// Reads the units of a file, and makes it ready for appends. It makes three device calls: a sync, so that
+/// what is read is what stays, the length, and one read of all bytes; it writes nothing. Time and memory are
+/// linear in the length. Where it isn't opened the disk comes back.
 pub fn scan<D: Disk>(alloc: Global, disk: D) -> Result<(Journal<D>, Vec<Found>), (OpenError, D)>
     ensures ok { IfOk result (λ x. IfSome (D.content disk) (λ c. Scans c x.1.items x.0.end)) }
     ensures durable { IfOk result (λ x. IfSome (D.content disk) (λ c. Only c (D.may_leave x.0.disk))) }
@@ -27,6 +27,8 @@ pub fn scan<D: Disk>(alloc: Global, disk: D) -> Result<(Journal<D>, Vec<Found>),
     ensures content_err { IfErr result (λ x. D.content x.1 ≡ D.content disk) }
     ensures images { IfOk result (λ x. LeavesOnly D.moment D.left_since disk x.0.disk (D.may_leave disk)) }
     ensures images_err { IfErr result (λ x. LeavesOnly D.moment D.left_since disk x.1 (D.may_leave disk)) }
+    ensures calls { IfOk result (λ x. D.calls x.0.disk ≡ behind_calls 3 (D.calls disk)) }
+    ensures calls_err { IfErr result (λ x. D.calls x.1 ≤ behind_calls 3 (D.calls disk)) }
     ensures later { IfOk result (λ x. D.faults disk ≤ D.faults x.0.disk) }
     ensures later_err { IfErr result (λ x. D.faults disk ≤ D.faults x.1) }
     ensures cause { IfErr result (λ x. x.0 ≡ error.DiskFault → Rose (D.faults disk) (D.faults x.1)) }
@@ -48,6 +50,7 @@ fn read_file<D: Disk>(alloc: Global, disk: &mut D) -> Result<Vec<u8>, OpenError>
     ensures durable { OnOk result (IfSome (D.content disk.old) (λ c. Only c (D.may_leave disk.new))) }
     ensures content { D.content disk.new ≡ D.content disk.old }
     ensures images { LeavesOnly D.moment D.left_since disk.old disk.new (D.may_leave disk.old) }
+    ensures calls { MakesCalls 3 (D.calls disk.old) (D.calls disk.new) result }
     ensures later { D.faults disk.old ≤ D.faults disk.new }
     ensures error { IfErr result (λ e. (c : List ℕ) → WhyNotScanned e c) }
     ensures cause { IfErr result (λ e. e ≡ error.DiskFault → Rose (D.faults disk.old) (D.faults disk.new)) }

@@ -139,6 +139,33 @@ fn a_new_file_has_its_bytes(rt: HostRuntime) -> Result<(), Fail> {
     Ok(())
 }
 
+/// How many bytes of a new file a disk holds, and the number of its call that fails.
+const KEPT: [(usize, u64); 5] = [(65, 0), (65, 1), (64, 1), (1, 0), (1, 1)];
+
+/// Whether a disk of these bytes whose call of this number fails is no new file, and holds them behind the
+/// answer and behind a crash.
+fn is_kept(alloc: Global, bytes: &[u8], failing: u64) -> Result<bool, Fail> {
+    let mut disk = disk_of(
+        alloc,
+        Vec::from_slice(alloc, bytes)?,
+        vec![in alloc; failing]?,
+    );
+    let refused = create(&mut disk).is_err();
+    let mut crashed = disk.crashed(alloc, Pick::New)?;
+    Ok(refused && holds(alloc, &mut disk, bytes) && holds(alloc, &mut crashed, bytes))
+}
+
+#[test]
+fn a_file_with_bytes_is_kept(rt: HostRuntime) -> Result<(), Fail> {
+    let alloc = rt.alloc();
+    for (kept, failing) in KEPT {
+        let mut bytes = bytes_of(alloc, NEW)?;
+        bytes.truncate(kept);
+        assert!(rt; is_kept(alloc, &bytes, failing)?, "{kept} bytes, call {failing}");
+    }
+    Ok(())
+}
+
 /// Makes room and appends, where the file is short.
 fn appends(journal: &mut Journal<MemoryDisk>, payload: &[u8]) -> bool
     requires { HasGate (Some (content_of journal.old.disk.recording)) journal.old.end }
