@@ -127,7 +127,7 @@ command_long command_.PurgeProcess fits = omega arith
 command_long (command_.DefineActivity a b c d) fits =
     within_path (name & optional name & transid & program) 85
     (pair_within name (optional name & transid & program) 26 59 85 name_is_within
-     (pair_within (optional name) (transid & program) 27 32 59 optional_name_within (pair_within transid program 14 18 32 transid_within program_within (omega arith)) (omega arith)) (omega arith))
+    (pair_within (optional name) (transid & program) 27 32 59 optional_name_within (pair_within transid program 14 18 32 transid_within program_within (omega arith)) (omega arith)) (omega arith))
     (omega arith) (a, (b, (c, d))) fits 5
 command_long (command_.DeleteActivity a) fits = within_path name 26 name_is_within (omega arith) a fits 6
 command_long (command_.Run a b c) fits =

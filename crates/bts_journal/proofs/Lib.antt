@@ -4,6 +4,7 @@ pub mod Cuts
 pub mod Leaves
 pub mod Writing
 pub mod SoFar
+pub mod Ahead
 pub mod OneReading
 pub mod Grown
 pub mod Examples

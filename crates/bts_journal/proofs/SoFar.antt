@@ -1,11 +1,13 @@
 -- The records of a file that were read so far.
-use Rattle.std.proofs.Common.{◌≡◌, ◌⊎◌, inl, inr, ℕ, ◌+◌, ◌≤◌, ◌<◌, Bool, true, false, not, cond, nat_lt, List, [], ◌∷◌, ◌++◌, length, map, drop, refl, ap, sym, ◌∙◌, subst, arith, length-append, length-drop, Option, Some, None, Err, IsTrue, IfSome}
+use Rattle.std.proofs.Common.{◌≡◌, ◌⊎◌, inl, inr, ℕ, ◌+◌, ◌≤◌, ◌<◌, Bool, true, false, not, ◌||◌, is_some, cond, nat_lt, List, [], ◌∷◌, ◌++◌, length, map, drop, refl, ap, sym, ◌∙◌, subst, arith, length-append, length-drop, Option, Some, None, Err, IsTrue, IfSome}
 use Rattle.std.proofs.lemmas.List.{map-append, length-map}
 use Rattle.bts_names.specs.Names.{Bytes}
 use Rattle.bts_command.specs.declared.ended.Ended.{Ended}
 use Rattle.bts_journal.specs.Gates.{is_open, first_gate, is_repository, is_closed, payload_at, record_at, AreRecords, record_length, records_length, gates_from, HasGate}
 use Rattle.bts_journal.specs.Units.{IsNext, AreUnits, HasNoNext, IsBad, IsFirstBad}
-use Rattle.bts_journal.specs.Scans.{units_of, Scans, WhyNotScanned, FindsNext}
+use Rattle.bts_disk.specs.Disks.{Only}
+use Rattle.bts_journal.specs.Journals.{State}
+use Rattle.bts_journal.specs.Scans.{units_of, Scans, WhyNotScanned, FindsNext, StandsWith}
 use Rattle.bts_journal.specs.declared.found.OpenError.{OpenError}
 use Rattle.bts_journal.specs.declared.found.OpenError.TheVariants as error
 use Rattle.bts_journal.specs.declared.found.Found.{Found}
@@ -134,11 +136,31 @@ scans-inside bytes founds end s =
     let some = gate-inside h.rest h.closed in
     omega (arith, some, h.ends, fronts.long, ap length fronts.whole, length-append fronts.front h.rest, length-drop first_gate bytes)
 
-pub has_gate : (content : Option Bytes) (founds : List Found) (end : ℕ) → IfSome content (λ c. Scans c founds end) → HasGate content end
+has_gate : (content : Option Bytes) (founds : List Found) (end : ℕ) → IfSome content (λ c. Scans c founds end) → HasGate content end
 has_gate None founds end s = tt
 has_gate (Some c) founds end s = scans-inside c founds end s
 
+-- ---- where the content is told
+
+if_told : (o : Option Bytes) (P : Bytes → Type 0) → ((c : Bytes) → o ≡ Some c → P c) → IfSome o P
+if_told None P f = tt
+if_told (Some c) P f = f c refl
+
+pub gate_scanned : (old new : Option Bytes) (founds : List Found) (end : ℕ) → new ≡ old → ((c : Bytes) → old ≡ Some c → Scans c founds end) → HasGate new end
+gate_scanned old new founds end same scanned = subst (λ (o : Option Bytes). HasGate o end) (sym same) (has_gate old founds end (if_told old (λ c. Scans c founds end) scanned))
+
+pub stands_scanned : {D : Type 0} (content : D → Option Bytes) (may_leave : D → Bytes → Type 0) (journal : State D) (old : Option Bytes) (founds : List Found) → content journal.disk ≡ old
+    → ((c : Bytes) → old ≡ Some c → Scans c founds journal.end) → ((c : Bytes) → old ≡ Some c → Only c (may_leave journal.disk)) → IfSome old (λ _. StandsWith content may_leave journal (units_of founds))
+stands_scanned content may_leave journal old founds same scanned only =
+    if_told old (λ _. StandsWith content may_leave journal (units_of founds)) (λ c told.
+    let s = scanned c told in
+    record { bytes = c; told = same ∙ told; holds = record { payloads = s.payloads; holds = s.holds; are = s.are }; durable = only c told })
+
 -- ---- why it stops at a record
+
+or-true : (t : Bool) → t || true ≡ true
+or-true true = refl
+or-true false = refl
 
 pub stops : (why : OpenError) (bytes rest p more : Bytes) (founds founds' : List Found) (offset : ℕ) → IsTrue (is_repository bytes) → SoFar bytes rest founds offset → record_at rest ≡ Some (p, more)
     → FindsNext {T = Unit {0}} (Err why) founds founds' p offset → WhyNotScanned why bytes
@@ -146,4 +168,12 @@ stops error.DiskFault bytes rest p more founds founds' offset is so read finds =
 stops error.NotRepository bytes rest p more founds founds' offset is so read finds = absurd finds
 stops (error.BadRecord at) bytes rest p more founds founds' offset is so read finds =
     subst (λ (k : ℕ). IsFirstBad bytes k) (sym finds.0) (no_next bytes rest p more founds offset is so read finds.1)
-stops error.NoMemory bytes rest p more founds founds' offset is so read finds = tt
+stops error.NoMemory bytes rest p more founds founds' offset is so read finds = record {
+  repository = is;
+  payloads = so.payloads;
+  units = units_of founds;
+  rest = rest;
+  records = so.records;
+  are = so.are;
+  next = ap (λ (o : Option (Bytes × Bytes)). is_closed rest || is_some o) read ∙ or-true (is_closed rest);
+}

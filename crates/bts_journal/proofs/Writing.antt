@@ -40,7 +40,7 @@ module _ {D : Type 0} (content : D → Option Bytes) (may_leave : D → Bytes �
         inr (subst (λ (x : Bytes). Torn end 1 x i) (only before.0 before.1) (subst (λ (n : ℕ). Torn end n before.0 i) one before.2))
 
     module _ (only : Only c (may_leave d0)) (first : Follows (Torn (end + 1) (length bytes)) (may_leave d0) (may_leave d1)) (synced : Fewer d1 d2)
-             (durable : Only (staged end bytes c) (may_leave d2)) (gate : Bytes) (one : length gate ≡ 1) (second : Follows (Torn end (length gate)) (may_leave d2) (may_leave d3)) where
+        (durable : Only (staged end bytes c) (may_leave d2)) (gate : Bytes) (one : length gate ≡ 1) (second : Follows (Torn end (length gate)) (may_leave d2) (may_leave d3)) where
       -- up to the write of the gate
       pub cut_three : Passes d0 d1 → Passes d1 d2 → Passes d2 d3 → CutOnly d0 d3
       cut_three p q r =

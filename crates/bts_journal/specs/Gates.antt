@@ -1,5 +1,5 @@
 -- The bytes of a file: its header, its gates, and the records behind open gates.
-use Rattle.std.specs.Prelude.{not, ◌≡◌, ℕ, Bool, false, cond, ◌+◌, ◌<◌, nat_eq, nat_lt, List, [], ◌∷◌, ◌++◌, length, take, drop, replicate, codes, Option, Some, None, IsTrue}
+use Rattle.std.specs.Prelude.{not, ◌||◌, is_some, ◌≡◌, ℕ, Bool, false, cond, ◌+◌, ◌<◌, nat_eq, nat_lt, nat_le, List, [], ◌∷◌, ◌++◌, length, take, drop, replicate, codes, Option, Some, None, IsTrue}
 use Rattle.std.specs.Int.{w32, to_be_bytes, from_be_bytes}
 use Rattle.bts_names.specs.Names.{Bytes, same}
 
@@ -64,6 +64,15 @@ gates_from at (p ∷ ps) = at ∷ gates_from (at + record_length p) ps
 abbrev pub is_closed : Bytes → Bool
 is_closed [] = false
 is_closed (gate ∷ bytes) = not (is_open gate)
+
+-- a gate stands at the front, and behind an open one a whole record
+abbrev pub goes_on : Bytes → Bool
+goes_on bytes = is_closed bytes || is_some (record_at bytes)
+
+-- the same of so many bytes, told by their first five
+abbrev pub goes_on_within : ℕ → Bytes → Bool
+goes_on_within len (gate ∷ a ∷ b ∷ c ∷ d ∷ bytes) = not (is_open gate) || nat_le (from_be_bytes w32 (a ∷ b ∷ c ∷ d ∷ []) + 5) len
+goes_on_within len _ = false
 
 -- A whole file: the signature, from the first gate on records of these payloads, and at its end a closed gate. The
 -- bytes of the slots, and those behind the last gate, are free.

@@ -1,9 +1,9 @@
 -- What a scan finds in a file, and why it finds none.
-use Rattle.std.specs.Prelude.{◌≡◌, ◌⊎◌, ℕ, false, List, [], ◌∷◌, ◌++◌, length, map, Option, Some, Result, Ok, Err}
+use Rattle.std.specs.Prelude.{◌≡◌, ◌⊎◌, ℕ, false, cond, nat_le, List, [], ◌∷◌, ◌++◌, length, map, drop, Option, Some, Result, Ok, Err, IsTrue}
 use Rattle.bts_names.specs.Names.{Bytes}
 use Rattle.bts_command.specs.declared.ended.Ended.{Ended}
 use Rattle.bts_disk.specs.Disks.{Only}
-use Rattle.bts_journal.specs.Gates.{first_gate, is_repository, gates_from, Holds}
+use Rattle.bts_journal.specs.Gates.{first_gate, is_repository, goes_on, gates_from, AreRecords, Holds}
 use Rattle.bts_journal.specs.Journals.{State}
 use Rattle.bts_journal.specs.Units.{IsNext, AreUnits, HoldsUnits, IsFirstBad}
 use Rattle.bts_journal.specs.declared.found.Found.{Found}
@@ -20,12 +20,32 @@ pub record Scans (bytes : Bytes) (founds : List Found) (end : ℕ) : Type 0 wher
   pub are : AreUnits 0 payloads (units_of founds)
   pub gates : map (λ f. f.gate) founds ≡ gates_from first_gate payloads
 
+-- some units stand in a repository, and behind them a closed gate or a whole record: where memory runs out, nothing
+-- that is told without it is a refusal
+pub record GoesOn (bytes : Bytes) : Type 0 where
+  pub repository : IsTrue (is_repository bytes)
+  pub payloads : List Bytes
+  pub units : List Ended
+  pub rest : Bytes
+  pub records : AreRecords (drop first_gate bytes) payloads rest
+  pub are : AreUnits 0 payloads units
+  pub next : IsTrue (goes_on rest)
+
 -- why bytes aren't scanned; a disk that failed says nothing of them
 abbrev pub WhyNotScanned : OpenError → Bytes → Type 0
 WhyNotScanned error.DiskFault bytes = Unit {0}
 WhyNotScanned error.NotRepository bytes = is_repository bytes ≡ false
 WhyNotScanned (error.BadRecord offset) bytes = IsFirstBad bytes offset
-WhyNotScanned error.NoMemory bytes = Unit {0}
+WhyNotScanned error.NoMemory bytes = GoesOn bytes
+
+-- how many bytes are read before memory is asked for
+abbrev pub at_hand : ℕ
+at_hand = 4096
+
+-- The device calls of a scan that reads all units: a sync, the length, and a read of all bytes. A file that is longer
+-- than what is read without memory is read twice.
+abbrev pub scan_calls : ℕ → ℕ
+scan_calls n = cond (nat_le n at_hand) 3 4
 
 -- ---- one unit more
 

@@ -2,7 +2,7 @@
 ghost use Rattle.std.specs.Prelude.{◌≡◌, ◌≤◌, ◌<◌, ◌+◌, ◌^◌, length};
 ghost use Rattle.std.specs.Option.{option_map};
 ghost use Rattle.std.specs.Vec.{vec_capacity};
-ghost use Rattle.bts_journal.specs.Gates.{frame, frame_length, record_at, is_repository, is_closed};
+ghost use Rattle.bts_journal.specs.Gates.{frame, frame_length, record_at, is_repository, is_closed, goes_on_within};
 
 /// An open gate: behind it stands a record. Every other byte is a closed gate.
 pub const OPEN_GATE: u8 = 0xA5;
@@ -31,6 +31,20 @@ pub fn is_closed(bytes: &[u8]) -> bool
 {
     match bytes {
         [gate, ..] => *gate != OPEN_GATE,
+        _ => false,
+    }
+}
+
+/// Whether a gate stands at the front of so many bytes, and behind an open one a whole record. Only their
+/// first ones are at hand, five at least.
+pub fn goes_on(front: &[u8], len: u64) -> bool
+    ensures { result ≡ goes_on_within len front.now }
+{
+    match front {
+        [gate, a, b, c, d, ..] => {
+            let claimed = u64::from(u32::from_be_bytes([*a, *b, *c, *d]));
+            *gate != OPEN_GATE || claimed + 5 <= len
+        }
         _ => false,
     }
 }

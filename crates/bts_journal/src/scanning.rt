@@ -1,22 +1,28 @@
 // Reading the units of a file.
-ghost use Rattle.std.specs.Prelude.{◌≡◌, ◌≤◌, ◌+◌, ◌^◌, ◌<◌, ℕ, List, Some, length, IfOk, IfErr, OnOk, IfSome};
+ghost use Rattle.std.specs.Prelude.{◌≡◌, ◌≤◌, ◌+◌, ◌^◌, ◌<◌, ℕ, List, Some, length, take, IfOk, IfErr, OnOk, IfSome};
 ghost use Rattle.bts_io.specs.Faults.{Rose};
-ghost use Rattle.bts_disk.specs.Disks.{Only, LeavesOnly, MakesCalls, behind_calls};
+ghost use Rattle.bts_disk.specs.Disks.{Only, LeavesOnly, behind_calls};
 ghost use Rattle.bts_journal.specs.Gates.{HasGate};
 ghost use Rattle.bts_journal.specs.Units.{HoldsUnits, IsFirstBad};
 ghost use Rattle.bts_command.specs.declared.ended.Ended.{Ended};
-ghost use Rattle.bts_journal.specs.Scans.{Scans, WhyNotScanned, FindsNext, StandsWith, units_of};
+ghost use Rattle.bts_journal.specs.Scans.{Scans, GoesOn, WhyNotScanned, FindsNext, StandsWith, scan_calls, units_of};
 ghost use Rattle.bts_journal.specs.declared.found.OpenError.TheVariants as error;
 
-use crate::record::{FIRST_GATE, is_closed, is_repository, split_record};
+use crate::record::{FIRST_GATE, goes_on, is_closed, is_repository, split_record};
 use crate::{Found, Journal, OpenError};
 use bts_codec::{DecodeError, decode};
 use bts_disk::Disk;
 use std::alloc::Global;
 
+/// How many bytes are read before memory is asked for.
+const AT_HAND: usize = 4_096;
+
 /// Reads the units of a file, and makes it ready for appends. It makes three device calls: a sync, so that
-/// what is read is what stays, the length, and one read of all bytes; it writes nothing. Time and memory are
-/// linear in the length. Where it isn't opened the disk comes back.
+/// what is read is what stays, the length, and one read. Of a file that has more than 4,096 bytes these are
+/// read first, and then, in a fourth call, all. It writes nothing. Time and memory are linear in the length.
+/// Want of memory is told only behind what is known without it: that the bytes are no repository, or that at
+/// a gate behind units none stands, or an open one without its whole record. Where it isn't opened the disk
+/// comes back.
 pub fn scan<D: Disk>(alloc: Global, disk: D) -> Result<(Journal<D>, Vec<Found>), (OpenError, D)>
     ensures ok { IfOk result (λ x. IfSome (D.content disk) (λ c. Scans c x.1.items x.0.end)) }
     ensures durable { IfOk result (λ x. IfSome (D.content disk) (λ c. Only c (D.may_leave x.0.disk))) }
@@ -27,39 +33,68 @@ pub fn scan<D: Disk>(alloc: Global, disk: D) -> Result<(Journal<D>, Vec<Found>),
     ensures content_err { IfErr result (λ x. D.content x.1 ≡ D.content disk) }
     ensures images { IfOk result (λ x. LeavesOnly D.moment D.left_since disk x.0.disk (D.may_leave disk)) }
     ensures images_err { IfErr result (λ x. LeavesOnly D.moment D.left_since disk x.1 (D.may_leave disk)) }
-    ensures calls { IfOk result (λ x. D.calls x.0.disk ≡ behind_calls 3 (D.calls disk)) }
-    ensures calls_err { IfErr result (λ x. D.calls x.1 ≤ behind_calls 3 (D.calls disk)) }
+    ensures calls { IfOk result (λ x. IfSome (D.content disk) (λ c. D.calls x.0.disk ≡ behind_calls (scan_calls (length c)) (D.calls disk))) }
+    ensures calls_err { IfErr result (λ x. IfSome (D.content disk) (λ c. D.calls x.1 ≤ behind_calls (scan_calls (length c)) (D.calls disk))) }
+    ensures few { IfOk result (λ x. D.calls x.0.disk ≤ behind_calls 4 (D.calls disk)) }
+    ensures few_err { IfErr result (λ x. D.calls x.1 ≤ behind_calls 4 (D.calls disk)) }
     ensures later { IfOk result (λ x. D.faults disk ≤ D.faults x.0.disk) }
     ensures later_err { IfErr result (λ x. D.faults disk ≤ D.faults x.1) }
     ensures cause { IfErr result (λ x. x.0 ≡ error.DiskFault → Rose (D.faults disk) (D.faults x.1)) }
 {
     let mut disk = disk;
-    let bytes = match read_file(alloc, &mut disk) {
-        Ok(bytes) => bytes,
-        Err(error) => return Err((error, disk)),
-    };
-    match scan_bytes(alloc, bytes.as_slice()) {
+    match scan_disk(alloc, &mut disk) {
         Ok((founds, end)) => Ok((Journal::at(alloc, disk, end), founds)),
         Err(error) => Err((error, disk)),
     }
 }
 
-/// All the bytes of a disk, synced before.
-fn read_file<D: Disk>(alloc: Global, disk: &mut D) -> Result<Vec<u8>, OpenError>
-    ensures read { IfOk result (λ bytes. IfSome (D.content disk.old) (λ c. bytes.items ≡ c)) }
-    ensures durable { OnOk result (IfSome (D.content disk.old) (λ c. Only c (D.may_leave disk.new))) }
+/// The units of a disk with their gates, and the offset of its last gate.
+fn scan_disk<D: Disk>(alloc: Global, disk: &mut D) -> Result<(Vec<Found>, u64), OpenError>
+    ensures ok { IfOk result (λ x. (c : List ℕ) → D.content disk.old ≡ Some c → Scans c x.0.items x.1) }
+    ensures durable { OnOk result ((c : List ℕ) → D.content disk.old ≡ Some c → Only c (D.may_leave disk.new)) }
+    ensures err { IfErr result (λ e. (c : List ℕ) → D.content disk.old ≡ Some c → WhyNotScanned e c) }
     ensures content { D.content disk.new ≡ D.content disk.old }
     ensures images { LeavesOnly D.moment D.left_since disk.old disk.new (D.may_leave disk.old) }
-    ensures calls { MakesCalls 3 (D.calls disk.old) (D.calls disk.new) result }
+    ensures calls { OnOk result ((c : List ℕ) → D.content disk.old ≡ Some c → D.calls disk.new ≡ behind_calls (scan_calls (length c)) (D.calls disk.old)) }
+    ensures most { (c : List ℕ) → D.content disk.old ≡ Some c → D.calls disk.new ≤ behind_calls (scan_calls (length c)) (D.calls disk.old) }
+    ensures few { D.calls disk.new ≤ behind_calls 4 (D.calls disk.old) }
     ensures later { D.faults disk.old ≤ D.faults disk.new }
-    ensures error { IfErr result (λ e. (c : List ℕ) → WhyNotScanned e c) }
     ensures cause { IfErr result (λ e. e ≡ error.DiskFault → Rose (D.faults disk.old) (D.faults disk.new)) }
 {
     disk.sync()?;
     let len = disk.len()?;
+    let mut front = [0; AT_HAND];
+    if len <= AT_HAND as u64 {
+        let bytes = &mut front[..len as usize];
+        disk.read(0, bytes)?;
+        return scan_bytes(alloc, bytes);
+    }
+    disk.read(0, front.as_mut_slice())?;
+    look_at_front(front.as_slice(), len)?;
     let mut bytes = vec![in alloc; 0; len as usize]?;
     disk.read(0, bytes.as_mut_slice())?;
-    Ok(bytes)
+    scan_bytes(alloc, bytes.as_slice())
+}
+
+/// Tells from the first bytes of a file, of which there are so many, what can be told: that it is a
+/// repository, and that its first record is whole.
+fn look_at_front(front: &[u8], len: u64) -> Result<(), OpenError>
+    requires enough { 69 ≤ length front.now }
+    requires within { length front.now ≤ len }
+    ensures ok { OnOk result ((c : List ℕ) → length c ≡ len → front.now ≡ take (length front.now) c → GoesOn c) }
+    ensures err { IfErr result (λ e. (c : List ℕ) → length c ≡ len → front.now ≡ take (length front.now) c → WhyNotScanned e c) }
+    ensures fault { IfErr result (λ e. e ≡ error.DiskFault → ⊥) }
+{
+    if !is_repository(front) {
+        return Err(OpenError::NotRepository);
+    }
+    let (_, ahead) = front.split_at(FIRST_GATE);
+    if !goes_on(ahead, len - FIRST_GATE as u64) {
+        return Err(OpenError::BadRecord {
+            offset: FIRST_GATE as u64,
+        });
+    }
+    Ok(())
 }
 
 /// The units of a file with their gates, and the offset of its last gate.

@@ -37,7 +37,7 @@ enum Told {
 
 /// How many bytes of the file of one unit are kept, one byte of it that is written anew, how many bytes
 /// are put behind, and what is said of it.
-const DAMAGED: [(usize, usize, u8, usize, Told); 13] = [
+const DAMAGED: [(usize, usize, u8, usize, Told); 17] = [
     (135, 134, 0x00, 0, Told::Units(1, 134)),
     (135, 134, 0x17, 0, Told::Units(1, 134)),
     (135, 134, 0x00, 40, Told::Units(1, 134)),
@@ -51,6 +51,10 @@ const DAMAGED: [(usize, usize, u8, usize, Told); 13] = [
     (64, 0, 0x42, 0, Told::Bad(64)),
     (63, 0, 0x42, 0, Told::NotRepository),
     (135, 0, 0x43, 0, Told::NotRepository),
+    (135, 134, 0x00, 5000, Told::Units(1, 134)),
+    (135, 66, 0x7F, 5000, Told::Bad(64)),
+    (135, 70, 0x02, 5000, Told::Bad(64)),
+    (135, 0, 0x43, 5000, Told::NotRepository),
 ];
 
 /// The bytes that the text has as hexadecimal pairs.
@@ -161,7 +165,10 @@ fn a_file_with_bytes_is_kept(rt: HostRuntime) -> Result<(), Fail> {
     for (kept, failing) in KEPT {
         let mut bytes = bytes_of(alloc, NEW)?;
         bytes.truncate(kept);
-        assert!(rt; is_kept(alloc, &bytes, failing)?, "{kept} bytes, call {failing}");
+        assert!(rt;
+            is_kept(alloc, &bytes, failing)?,
+            "{kept} bytes, call {failing}"
+        );
     }
     Ok(())
 }
