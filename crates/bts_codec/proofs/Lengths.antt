@@ -1,5 +1,5 @@
 -- How long spellings are.
-use Rattle.std.proofs.Common.{◌≡◌, ℕ, zero, suc, ◌+◌, ◌*◌, ◌/◌, ◌%◌, ◌<◌, ◌≤◌, Bool, true, false, ◌&&◌, List, [], ◌∷◌, ◌++◌, length, flat_map, Option, Some, None, IsTrue, refl, inl, inr, arith, length-append, leb-true}
+use Rattle.std.proofs.Common.{◌≡◌, ℕ, zero, suc, ◌+◌, ◌*◌, ◌/◌, ◌≤◌, Bool, List, [], ◌∷◌, length, flat_map, Some, None, IsTrue, inl, inr, arith, length-append, leb-true}
 use Rattle.std.specs.Prelude.{nat_le}
 use Rattle.std.specs.List.{list_all}
 use Rattle.std.proofs.lemmas.Bool.{and_parts, cases_lt}
@@ -7,7 +7,7 @@ use Rattle.std.proofs.Math.Nat.{mul-suc, mul-le-mul_left}
 use Rattle.bts_names.specs.Names.{Bytes, Name}
 use Rattle.bts_names.specs.Grammar.{is_between, is_name_within, is_word_within}
 use Rattle.bts_codec.specs.Formats.{Format, ◌&◌, only, nothing, number, number_bytes, number_from, string, at_most, optional}
-use Rattle.bts_codec.specs.Fields.{name_within, name, transid, program, code, path, key, moment, u32_from}
+use Rattle.bts_codec.specs.Fields.{name_within, path, u32_from}
 use Rattle.bts_codec.proofs.OneForm.{small_bytes, great_bytes}
 
 -- no spelling is longer

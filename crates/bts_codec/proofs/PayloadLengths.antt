@@ -1,5 +1,5 @@
 -- How long commands, replies and whole payloads are.
-use Rattle.std.proofs.Common.{◌≡◌, ℕ, suc, ◌+◌, ◌*◌, ◌≤◌, ◌<◌, ◌^◌, ◌&&◌, List, [], ◌∷◌, ◌++◌, length, flat_map, Option, Some, None, IsTrue, refl, ap, inl, inr, arith, length-append}
+use Rattle.std.proofs.Common.{◌≡◌, ℕ, ◌+◌, ◌*◌, ◌≤◌, ◌<◌, ◌^◌, ◌&&◌, List, [], ◌∷◌, ◌++◌, length, flat_map, Option, Some, None, IsTrue, ap, inl, inr, arith, length-append}
 use Rattle.std.specs.Prelude.{nat_eq}
 use Rattle.std.specs.List.{list_all}
 use Rattle.std.specs.Str.{bytes_eq}
@@ -13,7 +13,6 @@ use Rattle.bts_names.specs.declared.reply.Leaving.TheVariants as leaving_
 use Rattle.bts_names.specs.declared.reply.Reply.{Reply}
 use Rattle.bts_names.specs.declared.reply.Value.{Value}
 use Rattle.bts_names.specs.declared.reply.Value.TheVariants as value_
-use Rattle.bts_names.specs.declared.state.Mode.TheVariants as mode_
 use Rattle.bts_command.specs.Sizes.{put_bytes}
 use Rattle.bts_command.specs.declared.command.Call.{Call}
 use Rattle.bts_command.specs.declared.command.Command.{Command}
@@ -26,13 +25,13 @@ use Rattle.bts_command.specs.declared.ended.Ended.{Ended}
 use Rattle.bts_command.specs.declared.ended.UnitKind.{UnitKind}
 use Rattle.bts_command.specs.declared.ended.UnitKind.TheVariants as unit_
 use Rattle.bts_names.specs.Names.{Name, initial_name}
-use Rattle.bts_codec.specs.Formats.{Format, Written, written, numbered, word, ◌&◌, number, number_from, string, at_most, optional, nothing}
+use Rattle.bts_codec.specs.Formats.{Format, numbered, ◌&◌, number, number_from, string, at_most, optional}
 use Rattle.bts_codec.specs.Fields.{name, name_within, transid, program, code, path, key, moment, u32_from, flag, flag_number, resp, reason, mode, status, kind, timer_status}
 use Rattle.bts_codec.specs.Commands.{target, spot, due, acquired, command, command_written}
 use Rattle.bts_codec.specs.Replies.{event_name, code_or_none, code_bytes, is_code_or_none, is_event_name, leaving, value, reply, any_reply, is_reply}
 use Rattle.bts_codec.specs.Sizes.{value_bytes, calls_data, most_around, most_of_call}
 use Rattle.bts_codec.specs.Units.{call, calls, end, front, front_of, back, back_of, is_quiet, is_unit, kind_written, last_unit, parts, quiet_parts, payload}
-use Rattle.bts_codec.proofs.Lengths.{IsWithin, pair_within, only_within, tagged_within, at_most_within, optional_within, number_within, number_from_within, name_length, string_long, name_within_within, path_within, nothing_within}
+use Rattle.bts_codec.proofs.Lengths.{IsWithin, pair_within, tagged_within, at_most_within, optional_within, number_within, number_from_within, name_length, string_long, name_within_within, path_within}
 use Rattle.bts_codec.proofs.StoredUnits.{is_stored}
 
 -- ---- words

@@ -1,5 +1,5 @@
 -- What the grammar of payloads gives of a unit.
-use Rattle.std.proofs.Common.{◌≡◌, ℕ, ◌≤◌, Bool, true, false, ◌&&◌, List, [], ◌∷◌, ◌++◌, length, refl, subst, arith, Option, Some, None}
+use Rattle.std.proofs.Common.{◌≡◌, ◌≤◌, Bool, true, false, ◌&&◌, List, [], ◌∷◌, ◌++◌, length, refl, subst, arith, Option, Some, None}
 use Rattle.std.specs.Prelude.{not, nat_eq, option_to_list}
 use Rattle.std.specs.List.{list_all, list_any, AllByRecursion}
 use Rattle.std.proofs.lemmas.Bool.{and_parts, or_parts, or_from}
@@ -17,7 +17,7 @@ use Rattle.bts_command.specs.declared.command.Spot.TheVariants as spot
 use Rattle.bts_command.specs.declared.ended.Ended.{Ended}
 use Rattle.bts_command.specs.declared.ended.UnitKind.{UnitKind}
 use Rattle.bts_command.specs.declared.ended.UnitKind.TheVariants as unit
-use Rattle.bts_codec.specs.Formats.{Format, ◌&◌, at_most, number, number_from, optional, string}
+use Rattle.bts_codec.specs.Formats.{Format, ◌&◌, at_most, number_from, optional, string}
 use Rattle.bts_codec.specs.Fields as field
 use Rattle.bts_codec.specs.Commands as form
 use Rattle.bts_codec.specs.Replies.{reply}
