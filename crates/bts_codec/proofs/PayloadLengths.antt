@@ -13,7 +13,7 @@ use Rattle.bts_names.specs.declared.reply.Leaving.TheVariants as leaving_
 use Rattle.bts_names.specs.declared.reply.Reply.{Reply}
 use Rattle.bts_names.specs.declared.reply.Value.{Value}
 use Rattle.bts_names.specs.declared.reply.Value.TheVariants as value_
-use Rattle.bts_command.specs.Sizes.{put_bytes}
+use Rattle.bts_command.specs.Sizes.{data_bytes, got_bytes, put_bytes}
 use Rattle.bts_command.specs.declared.command.Call.{Call}
 use Rattle.bts_command.specs.declared.command.Command.{Command}
 use Rattle.bts_command.specs.declared.command.Command.TheVariants as command_
@@ -29,7 +29,7 @@ use Rattle.bts_codec.specs.Formats.{Format, numbered, ◌&◌, number, number_fr
 use Rattle.bts_codec.specs.Fields.{name, name_within, transid, program, code, path, key, moment, u32_from, flag, flag_number, resp, reason, mode, status, kind, timer_status}
 use Rattle.bts_codec.specs.Commands.{target, spot, due, acquired, command, command_written}
 use Rattle.bts_codec.specs.Replies.{event_name, code_or_none, code_bytes, is_code_or_none, is_event_name, leaving, value, reply, any_reply, is_reply}
-use Rattle.bts_codec.specs.Sizes.{value_bytes, calls_data, most_around, most_of_call}
+use Rattle.bts_codec.specs.Sizes.{most_around, most_of_call}
 use Rattle.bts_codec.specs.Units.{call, calls, end, front, front_of, back, back_of, is_quiet, is_unit, kind_written, last_unit, parts, quiet_parts, payload}
 use Rattle.bts_codec.proofs.Lengths.{IsWithin, pair_within, tagged_within, at_most_within, optional_within, number_within, number_from_within, name_length, string_long, name_within_within, path_within}
 use Rattle.bts_codec.proofs.StoredUnits.{is_stored}
@@ -197,7 +197,7 @@ activity_within =
     pair_within mode (status & flag & code_or_none) 1 16 17 mode_within
     (pair_within status (flag & code_or_none) 1 15 16 status_within (pair_within flag code_or_none 1 14 15 flag_within code_or_none_within (omega arith)) (omega arith)) (omega arith)
 
-value_long : (v : Value) → IsTrue (value.fits v) → length (value.spell v) ≤ 331 + value_bytes v
+value_long : (v : Value) → IsTrue (value.fits v) → length (value.spell v) ≤ 331 + got_bytes v
 value_long value_.Nothing fits = omega arith
 value_long (value_.Bytes bytes) fits = omega (arith, string_long bytes)
 value_long (value_.Id p) fits = within_path path 330 path_within (omega arith) p fits 2
@@ -208,30 +208,30 @@ value_long (value_.Timer t) fits = within_path timer_status 1 timer_status_withi
 value_long (value_.Ran b) fits = within_path flag 1 flag_within (omega arith) b fits 7
 value_long (value_.Left l) fits = within_path leaving 15 leaving_within (omega arith) l fits 8
 
-reply_long : (r : Reply) → IsTrue (reply.fits r) → length (reply.spell r) ≤ 333 + value_bytes r.value
+reply_long : (r : Reply) → IsTrue (reply.fits r) → length (reply.spell r) ≤ 333 + got_bytes r.value
 reply_long r fits =
     let any = (and_parts (any_reply.fits r) (is_reply r) fits).0 in
     let first = and_parts (resp.fits r.resp) ((reason & value).fits (r.reason, r.value)) any in
     let second = and_parts (reason.fits r.reason) (value.fits r.value) first.1 in
     let one : length (resp.spell r.resp) ≤ 1 = resp_within r.resp first.0 in
     let two : length (reason.spell r.reason) ≤ 1 = reason_within r.reason second.0 in
-    let three : length (value.spell r.value) ≤ 331 + value_bytes r.value = value_long r.value second.1 in
+    let three : length (value.spell r.value) ≤ 331 + got_bytes r.value = value_long r.value second.1 in
     omega (arith, one, two, three, length-append (resp.spell r.resp) (reason.spell r.reason ++ value.spell r.value), length-append (reason.spell r.reason) (value.spell r.value))
 
-call_long : (c : Call) → IsTrue (call.fits c) → length (call.spell c) ≤ 664 + (put_bytes c.command + value_bytes c.reply.value)
+call_long : (c : Call) → IsTrue (call.fits c) → length (call.spell c) ≤ 664 + (put_bytes c.command + got_bytes c.reply.value)
 call_long c fits =
     let both = and_parts (command.fits c.command) (reply.fits c.reply) fits in
     let one : length (command.spell c.command) ≤ 331 + put_bytes c.command = command_long c.command both.0 in
-    let two : length (reply.spell c.reply) ≤ 333 + value_bytes c.reply.value = reply_long c.reply both.1 in
+    let two : length (reply.spell c.reply) ≤ 333 + got_bytes c.reply.value = reply_long c.reply both.1 in
     omega (arith, one, two, length-append (command.spell c.command) (reply.spell c.reply))
 
-each_long : (cs : List Call) → IsTrue (list_all call.fits cs) → length (flat_map call.spell cs) ≤ 664 * length cs + calls_data cs
+each_long : (cs : List Call) → IsTrue (list_all call.fits cs) → length (flat_map call.spell cs) ≤ 664 * length cs + data_bytes cs
 each_long [] fits = omega arith
 each_long (c ∷ cs) fits =
     let both = and_parts (call.fits c) (list_all call.fits cs) fits in
-    let one : length (call.spell c) ≤ 664 + (put_bytes c.command + value_bytes c.reply.value) = call_long c both.0 in
-    let more : length (flat_map call.spell cs) ≤ 664 * length cs + calls_data cs = each_long cs both.1 in
-    let carried : calls_data (c ∷ cs) ≡ (put_bytes c.command + value_bytes c.reply.value) + calls_data cs = sum_by-cons (λ (x : Call). put_bytes x.command + value_bytes x.reply.value) c cs in
+    let one : length (call.spell c) ≤ 664 + (put_bytes c.command + got_bytes c.reply.value) = call_long c both.0 in
+    let more : length (flat_map call.spell cs) ≤ 664 * length cs + data_bytes cs = each_long cs both.1 in
+    let carried : data_bytes (c ∷ cs) ≡ (put_bytes c.command + got_bytes c.reply.value) + data_bytes cs = sum_by-cons (λ (x : Call). put_bytes x.command + got_bytes x.reply.value) c cs in
     omega (arith, one, more, carried, length-append (call.spell c) (flat_map call.spell cs))
 
 -- ---- units
@@ -249,31 +249,31 @@ front_within f fits =
     pair_within (number_from 1 last_unit) (moment & key) 10 74 84 (number_from_within 1 last_unit)
     (pair_within moment key 10 64 74 (number_from_within 0 _) key_within (omega arith)) (omega arith) (f.seq, (f.moment, f.key)) fits
 
-back_long : (e : Ended) → IsTrue (back.fits (back_of e)) → length (back.spell (back_of e)) ≤ 25 + 664 * length e.calls + calls_data e.calls
+back_long : (e : Ended) → IsTrue (back.fits (back_of e)) → length (back.spell (back_of e)) ≤ 25 + 664 * length e.calls + data_bytes e.calls
 back_long e fits =
     let both = and_parts (end.fits e.end) (calls.fits e.calls) fits in
     let all = and_parts ((number_from 0 500).fits (length e.calls)) (list_all call.fits e.calls) both.1 in
     let one : length (end.spell e.end) ≤ 15 = end_within e.end both.0 in
     let count : length (number.spell (length e.calls)) ≤ 10 = number_within (length e.calls) in
-    let each : length (flat_map call.spell e.calls) ≤ 664 * length e.calls + calls_data e.calls = each_long e.calls all.1 in
+    let each : length (flat_map call.spell e.calls) ≤ 664 * length e.calls + data_bytes e.calls = each_long e.calls all.1 in
     omega (arith, one, count, each, length-append (end.spell e.end) (calls.spell e.calls), length-append (number.spell (length e.calls)) (flat_map call.spell e.calls))
 
 module _ {A : Type 0} (f : Format A) (within : IsWithin 356 f) (e : Ended) (k : Key) (x : A) where
   unit-long : IsTrue (front.fits (front_of e k)) → IsTrue (f.fits x) → IsTrue (back.fits (back_of e)) → (tag : ℕ)
-      → length (tag ∷ (front.spell (front_of e k) ++ (f.spell x ++ back.spell (back_of e)))) ≤ 466 + 664 * length e.calls + calls_data e.calls
+      → length (tag ∷ (front.spell (front_of e k) ++ (f.spell x ++ back.spell (back_of e)))) ≤ 466 + 664 * length e.calls + data_bytes e.calls
   unit-long hf hx hb tag =
       let one : length (front.spell (front_of e k)) ≤ 84 = front_within (front_of e k) hf in
       let two : length (f.spell x) ≤ 356 = within x hx in
-      let three : length (back.spell (back_of e)) ≤ 25 + 664 * length e.calls + calls_data e.calls = back_long e hb in
+      let three : length (back.spell (back_of e)) ≤ 25 + 664 * length e.calls + data_bytes e.calls = back_long e hb in
       omega (arith, one, two, three, length-append (front.spell (front_of e k)) (f.spell x ++ back.spell (back_of e)), length-append (f.spell x) (back.spell (back_of e)))
 
-  loud : IsTrue ((parts f).fits (front_of e k, (x, back_of e))) → (tag : ℕ) → length (tag ∷ (parts f).spell (front_of e k, (x, back_of e))) ≤ 466 + 664 * length e.calls + calls_data e.calls
+  loud : IsTrue ((parts f).fits (front_of e k, (x, back_of e))) → (tag : ℕ) → length (tag ∷ (parts f).spell (front_of e k, (x, back_of e))) ≤ 466 + 664 * length e.calls + data_bytes e.calls
   loud fits tag =
       let p = and_parts (front.fits (front_of e k)) (f.fits x && back.fits (back_of e)) fits in
       let q = and_parts (f.fits x) (back.fits (back_of e)) p.1 in
       unit-long p.0 q.0 q.1 tag
 
-  quiet : IsTrue ((quiet_parts f).fits (front_of e k, (x, back_of e))) → (tag : ℕ) → length (tag ∷ (quiet_parts f).spell (front_of e k, (x, back_of e))) ≤ 466 + 664 * length e.calls + calls_data e.calls
+  quiet : IsTrue ((quiet_parts f).fits (front_of e k, (x, back_of e))) → (tag : ℕ) → length (tag ∷ (quiet_parts f).spell (front_of e k, (x, back_of e))) ≤ 466 + 664 * length e.calls + data_bytes e.calls
   quiet fits tag =
       let p = and_parts (front.fits (front_of e k)) (f.fits x && (back.fits (back_of e) && is_quiet (back_of e))) fits in
       let q = and_parts (f.fits x) (back.fits (back_of e) && is_quiet (back_of e)) p.1 in
@@ -282,7 +282,7 @@ module _ {A : Type 0} (f : Format A) (within : IsWithin 356 f) (e : Ended) (k : 
 wider : {A : Type 0} (f : Format A) (j : ℕ) → j ≤ 356 → IsWithin j f → IsWithin 356 f
 wider f j fit within x fits = let one : length (f.spell x) ≤ j = within x fits in omega (arith, fit, one)
 
-kind_long : (e : Ended) (u : UnitKind) → IsTrue ((kind_written e u).fits) → length ((kind_written e u).bytes) ≤ 466 + 664 * length e.calls + calls_data e.calls
+kind_long : (e : Ended) (u : UnitKind) → IsTrue ((kind_written e u).fits) → length ((kind_written e u).bytes) ≤ 466 + 664 * length e.calls + data_bytes e.calls
 kind_long e (unit_.Request n k) fits = loud (u32_from 1) (wider (u32_from 1) 10 (omega arith) (number_from_within 1 4_294_967_295)) e k n fits 1
 kind_long e (unit_.Activation k p) fits = loud path (wider path 330 (omega arith) path_within) e k p fits 2
 kind_long e (unit_.Notice k p) fits = quiet path (wider path 330 (omega arith) path_within) e k p fits 3
@@ -291,11 +291,11 @@ kind_long e (unit_.Clock n) fits = absurd (cc fits)
 kind_long e (unit_.Settle n) fits = absurd (cc fits)
 kind_long e (unit_.Browse n) fits = absurd (cc fits)
 
-pub payload_long : (e : Ended) → IsTrue (is_unit e) → length (payload e) ≤ most_around + most_of_call * length e.calls + calls_data e.calls
+pub payload_long : (e : Ended) → IsTrue (is_unit e) → length (payload e) ≤ most_around + most_of_call * length e.calls + data_bytes e.calls
 payload_long e fits = kind_long e e.unit (and_parts ((kind_written e e.unit).fits) (nat_eq (length e.rows) 0) fits).0
 
-pub payload_fits : (e : Ended) → IsTrue (is_unit e) → calls_data e.calls < 2 ^ 30 → length (payload e) < 2 ^ 31
+pub payload_fits : (e : Ended) → IsTrue (is_unit e) → data_bytes e.calls < 2 ^ 30 → length (payload e) < 2 ^ 31
 payload_fits e fits little =
     let few : length e.calls ≤ 500 = (is_stored e fits).few in
-    let long : length (payload e) ≤ most_around + most_of_call * length e.calls + calls_data e.calls = payload_long e fits in
+    let long : length (payload e) ≤ most_around + most_of_call * length e.calls + data_bytes e.calls = payload_long e fits in
     omega (arith, few, long, little)

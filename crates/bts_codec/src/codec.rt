@@ -4,7 +4,8 @@ ghost use Rattle.bts_names.specs.Names.{Bytes};
 ghost use Rattle.bts_command.specs.declared.ended.Ended.{Ended};
 ghost use Rattle.bts_codec.specs.Units.{unit, is_unit, payload, unit_in};
 ghost use Rattle.bts_codec.specs.Laws.{NoPrefix};
-ghost use Rattle.bts_codec.specs.Sizes.{calls_data, most_around, most_of_call, IsStored};
+ghost use Rattle.bts_command.specs.Sizes.{data_bytes};
+ghost use Rattle.bts_codec.specs.Sizes.{most_around, most_of_call, IsStored};
 ghost use Rattle.bts_codec.specs.Answers.{Decodes, IsPayload, IfMalformed};
 
 use crate::DecodeError;
@@ -68,8 +69,8 @@ pub fn no_payload_begins_another()
 /// A payload is longer than the data that its calls put and got by 466 bytes and 664 a call at most. So one of
 /// calls that carry less than 2^30 bytes fits into a record, whose length is below 2^31.
 pub fn payloads_are_short()
-    ensures bound { (e : Ended) → IsTrue (is_unit e) → length (payload e) ≤ most_around + most_of_call * length e.calls + calls_data e.calls }
-    ensures fits { (e : Ended) → IsTrue (is_unit e) → calls_data e.calls < 2 ^ 30 → length (payload e) < 2 ^ 31 }
+    ensures bound { (e : Ended) → IsTrue (is_unit e) → length (payload e) ≤ most_around + most_of_call * length e.calls + data_bytes e.calls }
+    ensures fits { (e : Ended) → IsTrue (is_unit e) → data_bytes e.calls < 2 ^ 30 → length (payload e) < 2 ^ 31 }
 {}
 
 /// A unit that has a payload has at most 500 calls, each of a command that a line of a session gives, and a

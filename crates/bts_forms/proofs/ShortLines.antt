@@ -117,9 +117,9 @@ put_short : (m : ℕ) (text : Bytes) → fill_limit ≤ m → length text ≤ m 
 unfolding put_container
 put_short m text fill h =
     let front : Always (With (λ g. said_bytes g ≤ m) (IsShort m)) (says statement.Put ▸ codes "PUT" ▹ given (codes "CONTAINER") name ▹ spot) =
-      saying statement.Put (λ c _ s _ g k. k) ▸▸ codes "PUT" ▹▹ anything (given (codes "CONTAINER") name) ▹▹ anything spot in
+    saying statement.Put (λ c _ s _ g k. k) ▸▸ codes "PUT" ▹▹ anything (given (codes "CONTAINER") name) ▹▹ anything spot in
     let left : Shortens (says statement.Put ▸ codes "PUT" ▹ given (codes "CONTAINER") name ▹ spot) =
-      says_short statement.Put ▸≤ codes "PUT" ▹≤ given_short (codes "CONTAINER") name ▹≤ short_spot in
+    says_short statement.Put ▸≤ codes "PUT" ▹≤ given_short (codes "CONTAINER") name ▹≤ short_spot in
     with_argument (λ g. said_bytes g ≤ m) (IsShort m) (given_to_last (codes "FROM") source) ((says statement.Put ▸ codes "PUT" ▹ given (codes "CONTAINER") name ▹ spot) text) (front.on text)
     (behind_by (λ rest. length rest ≤ m) (λ rest. Of (λ g. said_bytes g ≤ m) (given_to_last (codes "FROM") source rest)) ((says statement.Put ▸ codes "PUT" ▹ given (codes "CONTAINER") name ▹ spot) text)
     (λ rest k. from_short m rest fill k) (left.on m text h))
