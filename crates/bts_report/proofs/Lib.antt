@@ -1,2 +1,3 @@
 mod Digits
 mod Divided
+mod Held

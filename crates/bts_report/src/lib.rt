@@ -8,9 +8,11 @@ mod reply_words;
 mod row_words;
 mod unit_words;
 mod words;
+mod writing;
 
 pub use lines::{list_text, report};
 pub use number::add_number;
+pub use writing::{TellError, write_report};
 
 #[cfg(test)]
 mod tests;

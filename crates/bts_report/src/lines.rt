@@ -15,7 +15,7 @@ use bts_timer::print_moment;
 use std::alloc::Global;
 
 #[tactic(auto, using(crate::proofs::Divided::call_written), unfolding(crate::specs::Reports::call_line))]
-fn add_call(out: &mut Blob, call: &Call) -> Result<(), NoMemory>
+pub fn add_call(out: &mut Blob, call: &Call) -> Result<(), NoMemory>
     ensures { OnOk result (out.new ≡ out.old ++ call_line call.now) }
 {
     // Every word brings one space.
@@ -43,7 +43,7 @@ fn add_list_line(out: &mut Blob, row: &Row) -> Result<(), NoMemory>
 }
 
 #[tactic(auto, unfolding(crate::specs::Reports::row_line))]
-fn add_row_line(out: &mut Blob, row: &Row) -> Result<(), NoMemory>
+pub fn add_row_line(out: &mut Blob, row: &Row) -> Result<(), NoMemory>
     ensures { OnOk result (out.new ≡ out.old ++ row_line row.now) }
 {
     out.extend(b"  ")?;
@@ -61,7 +61,7 @@ fn add_rows(out: &mut Blob, rows: &[Row]) -> Result<(), NoMemory>
 }
 
 #[tactic(auto, using(crate::proofs::Divided::unit_written), unfolding(crate::specs::Reports::unit_line))]
-fn add_unit_line(alloc: Global, out: &mut Blob, n: u64, ended: &Ended) -> Result<(), NoMemory>
+pub fn add_unit_line(alloc: Global, out: &mut Blob, n: u64, ended: &Ended) -> Result<(), NoMemory>
     ensures { OnOk result (out.new ≡ out.old ++ unit_line n ended.now) }
 {
     let moment = print_moment(alloc, ended.moment)?;

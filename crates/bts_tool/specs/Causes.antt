@@ -1,5 +1,5 @@
 -- What a call of the program comes to, and what it tells of it.
-use Rattle.std.specs.Prelude.{◌≡◌, ◌≢◌, ◌⊎◌, ◌≤◌, ℕ, Bool, true, ◌||◌, nat_eq, List, [], ◌∷◌, ◌++◌, length, drop, codes, is_some, Option, None, Some, Result, Ok, Err}
+use Rattle.std.specs.Prelude.{◌≡◌, ◌⊎◌, ◌≤◌, ℕ, Bool, true, false, ◌||◌, ◌&&◌, nat_eq, List, [], ◌∷◌, ◌++◌, length, drop, codes, is_some, Option, None, Some, Result, Ok, Err}
 use Rattle.std.specs.Fmt.{decimal}
 use Rattle.std.specs.Io.KnownBytes.{Appends}
 use Rattle.bts_names.specs.Names.{Bytes}
@@ -134,43 +134,40 @@ tail_line SourceFault = codes "source fault\n"
 tail_line (BadSession n why) = bad_session_line n why
 tail_line NoMemory = codes "no memory\n"
 
--- the report and the tail line; where there was no memory the line stands alone
+-- the last line of a run: that all was done, that the limit was met, or that there was no memory
+abbrev pub stop_line : List Ended → Stop → Bytes
+stop_line history stop.Done = end_line (length history)
+stop_line history (stop.Limit count) = limit_line count
+stop_line history stop.NoMemory = tail_line NoMemory
+
+-- the report and the tail line
 abbrev pub run_text : List Ended → Stop → Bytes
-run_text history stop.Done = report history ++ end_line (length history)
-run_text history (stop.Limit count) = report history ++ limit_line count
-run_text history stop.NoMemory = tail_line NoMemory
+run_text history why = report history ++ stop_line history why
 
 abbrev pub text_of : Result Ran Cause → Bytes
 text_of (Ok ran) = run_text ran.history ran.stop
 text_of (Err cause) = tail_line cause
 
--- all of a text was written, and the status is its own; or the sink failed behind a front of it
-pub record TellsText (text : Bytes) (status answer : ℕ) (before after : Option Bytes) : Type 0 where
-  pub answered : answer ≢ sink_status → answer ≡ status
+-- whether a text takes memory: one with a number or a report in it does
+abbrev pub takes_memory : Result Ran Cause → Bool
+takes_memory (Ok ran) = true
+takes_memory (Err (BadSession n why)) = true
+takes_memory (Err cause) = false
+
+-- the statuses with which a text may be cut: that of the sink, and want of memory where the text takes any
+abbrev pub may_be_cut : Bool → ℕ → Bool
+may_be_cut takes n = nat_eq n sink_status || (takes && nat_eq n (cause_status NoMemory))
+
+-- a front of the text was written and nothing else, and with any other status all of it, and the status is its own
+pub record TellsText (takes : Bool) (text : Bytes) (status answer : ℕ) (before after : Option Bytes) : Type 0 where
+  pub answered : may_be_cut takes answer ≡ false → answer ≡ status
   pub front : AppendsFront before after text
-  pub all : answer ≢ sink_status → Appends before after text
+  pub all : may_be_cut takes answer ≡ false → Appends before after text
 
 -- what was found is told: the history is handed out, and the text is written
 pub record Tells (found : Result Ran Cause) (answer : ℕ) (given : Option (List Ended)) (before after : Option Bytes) : Type 0 where
   pub history : given ≡ handed_out found
-  pub text : TellsText (text_of found) (status_of found) answer before after
-
--- the same units, where there was no memory for telling them
-abbrev pub without_memory : Result Ran Cause → Result Ran Cause
-without_memory (Ok ran) = Ok (record ran { stop = stop.NoMemory })
-without_memory (Err cause) = Err NoMemory
-
--- what was found is told, or want of memory for telling it
-abbrev pub TellsOrShort : Result Ran Cause → ℕ → Option (List Ended) → Option Bytes → Option Bytes → Type 0
-TellsOrShort found answer given before after = Tells found answer given before after ⊎ Tells (without_memory found) answer given before after
-
--- only a text with a number or a report in it takes memory
-abbrev pub TellsFound : Result Ran Cause → ℕ → Option (List Ended) → Option Bytes → Option Bytes → Type 0
-TellsFound (Ok ran) answer given before after = TellsOrShort (Ok ran) answer given before after
-TellsFound (Err (BadSession n why)) answer given before after = TellsOrShort (Err (BadSession n why)) answer given before after
-TellsFound (Err WordsRefused) answer given before after = Tells (Err WordsRefused) answer given before after
-TellsFound (Err SourceFault) answer given before after = Tells (Err SourceFault) answer given before after
-TellsFound (Err NoMemory) answer given before after = Tells (Err NoMemory) answer given before after
+  pub text : TellsText (takes_memory found) (text_of found) (status_of found) answer before after
 
 -- ---- inside the call
 
