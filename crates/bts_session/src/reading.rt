@@ -1,9 +1,9 @@
 // Sessions read from their text, in place, from the front to the back.
-ghost use Rattle.std.specs.Prelude.{◌≡◌, ◌+◌, ◌≤◌, ◌∷◌, Ok, IfOk, MatchResult};
+ghost use Rattle.std.specs.Prelude.{◌≡◌, ◌+◌, ◌≤◌, ◌∷◌, Ok, length, IfOk, IsErrOf, MatchResult};
 ghost use Rattle.bts_forms.specs.declared.line.ScriptError.TheVariants as error;
 ghost use Rattle.bts_script.specs.Blocks.{GivesWhatIsSaid, IsRefusedFor, at_line, by_table};
 ghost use Rattle.bts_script.specs.Lines.{lines_of};
-ghost use Rattle.bts_session.specs.Sessions.{outside, session_from, session_of, with_item};
+ghost use Rattle.bts_session.specs.Sessions.{outside, session_from, session_of, text_limit, with_item};
 ghost use Rattle.bts_session.specs.Today.{IsSessionOfToday};
 ghost use Rattle.bts_session.specs.Reading.{GoesOn, block_first, by_first, line_count, sections_from, with_new_program, with_request};
 
@@ -219,11 +219,12 @@ fn read_next<'a>(
 }
 
 /// The session that bytes say. Syntax comes exactly where they are none, with the first bad line, or with
-/// line 0 where they are more than 16,777,216. It reads the bytes where they lie, in time that grows with
-/// their number but for the look-ups of labels and programs. A session holds items and statements of today
-/// alone.
+/// line 0 where they are more than 16,777,216; that is told before any memory is taken. It reads the bytes
+/// where they lie, in time that grows with their number but for the look-ups of labels and programs. A
+/// session holds items and statements of today alone.
 pub fn read_session(alloc: Global, bytes: &[u8]) -> Result<Session, ScriptError>
     ensures said { GivesWhatIsSaid result (session_of bytes.now) }
+    ensures memory { IsErrOf result error.NoMemory → length bytes.now ≤ text_limit }
     ensures today { IfOk result (λ session. IsSessionOfToday session) }
 {
     if bytes.len() > TEXT_LIMIT {
