@@ -11,7 +11,8 @@ nothing_written : (a : Option Bytes) → Appends a a []
 nothing_written None = tt
 nothing_written (Some x) = sym (append-nil x)
 
-written_on : (a b c : Option Bytes) (front more : Bytes) → Appends a b front → Appends b c more → Appends a c (front ++ more)
+-- a piece is appended behind another
+pub written_on : (a b c : Option Bytes) (front more : Bytes) → Appends a b front → Appends b c more → Appends a c (front ++ more)
 written_on None b c front more p q = tt
 written_on (Some x) None c front more p q = absurd p
 written_on (Some x) (Some y) None front more p q = absurd q

@@ -1,3 +1,3 @@
 mod Digits
 mod Divided
-mod Held
+pub mod Held

@@ -1,3 +1,4 @@
 pub mod Counted
 pub mod Told
 pub mod Stopped
+pub mod Cut

@@ -1,8 +1,14 @@
 -- The words of the command line.
-use Rattle.std.specs.Prelude.{ℕ, Bool, false, not, nat_eq, ◌&&◌, cond, List, [], ◌∷◌, codes, Option, Some, None}
+use Rattle.std.specs.Prelude.{ℕ, ◌-◌, Bool, false, not, nat_eq, ◌&&◌, cond, List, [], ◌∷◌, take, drop, map, string_bytes, codes, Option, Some, None, Result, Ok, Err}
+use Rattle.std.specs.Vec.Iter.{into_iter_items, into_iter_len}
+use Rattle.std.specs.declared.vec.IntoIter.{IntoIter}
 use Rattle.std.specs.Str.{bytes_eq}
 use Rattle.bts_names.specs.Names.{Bytes}
 use Rattle.bts_forms.specs.Texts.{number_within}
+
+-- the arguments behind the first one, which is the program's own name
+abbrev pub behind_first : {X Z : Type 0} → IntoIter X Z → List X
+behind_first arguments = take (into_iter_len arguments - 1) (drop 1 (into_iter_items arguments))
 
 -- a file has at least one byte, and doesn't begin with `-`
 abbrev pub is_file : Bytes → Bool

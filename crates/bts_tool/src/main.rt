@@ -4,6 +4,7 @@
 mod cause;
 #[cfg(test)]
 mod jumps;
+mod process;
 mod session;
 #[cfg(test)]
 mod stories;
@@ -15,6 +16,7 @@ mod top_call;
 mod words;
 
 use bts_names::NoMemory;
+use process::{behind_first, exit_code};
 use std::alloc::Global;
 use std::env;
 use std::io::ErrorKind;
@@ -25,16 +27,10 @@ use top_call::{bts_command, tell_no_memory};
 /// The words of the command line. Where one of them is no text, or they can't be had, there are none, and
 /// no words are wrong words.
 fn words_of(rt: &HostRuntime, alloc: Global) -> Result<Vec<String>, NoMemory> {
-    let mut words = Vec::new(alloc);
     match env::args(rt) {
-        Ok(arguments) => {
-            for word in arguments.skip(1) {
-                words.push(word)?;
-            }
-            Ok(words)
-        }
+        Ok(arguments) => behind_first(alloc, arguments),
         Err(error) if error.kind() == ErrorKind::OutOfMemory => Err(NoMemory),
-        Err(_) => Ok(words),
+        Err(_) => Ok(Vec::new(alloc)),
     }
 }
 
@@ -46,5 +42,5 @@ fn main(rt: HostRuntime) -> ExitCode {
         Ok(words) => bts_command(alloc, &words, &mut source, &mut sink),
         Err(_) => tell_no_memory(&mut sink),
     };
-    ExitCode::from(outcome.status)
+    exit_code(&outcome)
 }

@@ -1,5 +1,7 @@
 // The standard streams as a source and a sink.
-ghost use Rattle.std.specs.Prelude.{◌≡◌};
+ghost use Rattle.std.specs.Prelude.{◌≡◌, ◌<◌, ◌≤◌, if◌then◌else◌, is_err, length, IfOk};
+ghost use Rattle.std.specs.Io.KnownBytes.{ReadConsumes, WriteAppends};
+ghost use Rattle.bts_io.specs.Faults.{HasCause, next_count};
 
 use bts_io::{Sink, SinkFail, Source, SourceFail};
 use std::io::{Read, Write};
@@ -25,7 +27,14 @@ impl<R: Read> Source for ReaderSource<R> {
 
     ghost faults = { λ s. s.faults };
 
-    fn read(&mut self, into: &mut [u8]) -> Result<usize, SourceFail> {
+    /// Reads once, and counts a fault exactly where it answers one.
+    fn read(&mut self, into: &mut [u8]) -> Result<usize, SourceFail>
+        requires { 0 < length into.old }
+        ensures bound { IfOk result (λ n. n ≤ length into.new) }
+        ensures bytes { ReadConsumes (R.remaining self.old.reader) (R.remaining self.new.reader) result into.new }
+        ensures cause { HasCause self.old.faults self.new.faults result }
+        ensures counted { self.new.faults ≡ if is_err result then next_count self.old.faults else self.old.faults }
+    {
         match self.reader.read(into) {
             Ok(n) => Ok(n),
             Err(_) => {
@@ -57,7 +66,15 @@ impl<W: Write> Sink for WriterSink<W> {
 
     ghost faults = { λ s. s.faults };
 
-    fn write(&mut self, bytes: &[u8]) -> Result<usize, SinkFail> {
+    /// Writes once, and counts a fault exactly where it answers one.
+    fn write(&mut self, bytes: &[u8]) -> Result<usize, SinkFail>
+        requires { 0 < length bytes.now }
+        ensures some { IfOk result (λ n. 0 < n) }
+        ensures bound { IfOk result (λ n. n ≤ length bytes.now) }
+        ensures bytes { WriteAppends (W.contents self.old.writer) (W.contents self.new.writer) result bytes.now }
+        ensures cause { HasCause self.old.faults self.new.faults result }
+        ensures counted { self.new.faults ≡ if is_err result then next_count self.old.faults else self.old.faults }
+    {
         match self.writer.write(bytes) {
             Ok(n) if 0 < n => Ok(n),
             _ => {

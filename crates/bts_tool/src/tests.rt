@@ -144,6 +144,25 @@ fn tells(
     Ok(outcome.status == status && narrow.sink.bytes() == told.as_bytes())
 }
 
+/// Whether a report with two GETs of 32,768 bytes gets that answer where that write fails: so many pieces are told.
+fn tells_long(alloc: Global, failing_call: u64, status: u8, pieces: usize) -> Result<bool, Fail> {
+    let put = "PUT CONTAINER(MSG) ACQPROCESS FROM(FILL(32768))\n";
+    let text = format!(in alloc; "{OPENING}{put}{GET}{GET}END\n")?;
+    let bytes = times(alloc, "2A", 32_768)?;
+    let got = format!(in alloc; "  GET CONTAINER(MSG) NORMAL X'{bytes}'\n")?;
+    let first = format!(in alloc; "{HEAD}{PUT}{got}")?;
+    let mut told = String::new(alloc);
+    for piece in [first.as_str(), got.as_str(), "  RETURN NORMAL\n", "END 1\n"]
+        .iter()
+        .take(pieces)
+    {
+        told.push_str(piece)?;
+    }
+    let mut sink = MemorySink::new(alloc, failing(alloc, failing_call)?);
+    let outcome = run(alloc, "run F", &text, &mut sink)?;
+    Ok(outcome.status == status && outcome.history.is_some() && sink.bytes() == told.as_bytes())
+}
+
 #[test]
 fn requests_are_done(rt: HostRuntime) -> Result<(), Fail> {
     let alloc = rt.alloc();
@@ -294,6 +313,28 @@ fn faults_and_wrong_words_are_told(rt: HostRuntime) -> Result<(), Fail> {
         assert!(rt;
             tells(alloc, line, failing_calls, status, told)?,
             "at {line} {failing_calls:?}"
+        );
+    }
+    Ok(())
+}
+
+/// A piece is what is written at once: 65,536 bytes or more, with the line that makes it so, what is left at the end,
+/// and the tail line.
+#[test]
+fn long_reports_go_in_pieces(rt: HostRuntime) -> Result<(), Fail> {
+    let alloc = rt.alloc();
+    let table = [
+        (0, 0, 4),
+        (1, 5, 0),
+        (2, 5, 1),
+        (3, 5, 2),
+        (4, 5, 3),
+        (5, 0, 4),
+    ];
+    for (failing_call, status, pieces) in table {
+        assert!(rt;
+            tells_long(alloc, failing_call, status, pieces)?,
+            "at {failing_call}"
         );
     }
     Ok(())

@@ -1,25 +1,24 @@
 // The top call of the program.
-ghost use Rattle.std.specs.Prelude.{◌≡◌, ◌≢◌, ◌⊎◌, ◌≤◌, ◌++◌, true, false, length, map, string_bytes, IfSome, IfOk, IsSome, List, Option, Some, None, Result, Ok, Err};
+ghost use Rattle.std.specs.Prelude.{◌≡◌, ◌≢◌, ◌⊎◌, ◌≤◌, true, false, map, string_bytes, IfSome, IsSome, Some, None, Result, Ok, Err};
 ghost use Rattle.bts_io.specs.Faults.{Rose};
 ghost use Rattle.bts_io.specs.Streams.{ConsumesWithin};
 ghost use Rattle.bts_script.specs.Blocks.{Refusal};
-ghost use Rattle.bts_report.specs.Reports.{report};
 ghost use Rattle.bts_tool.specs.Words.{greatest_limit, limit_of};
 ghost use Rattle.bts_tool.specs.Tail.{counted_line};
 ghost use Rattle.bts_tool.specs.declared.cause.Cause.{Cause};
 ghost use Rattle.bts_tool.specs.declared.cause.Cause.TheVariants as causes;
 ghost use Rattle.bts_tool.specs.declared.session.Ran.{Ran};
-ghost use Rattle.bts_tool.specs.Causes.{IsRead, IsSaid, IsHistory, IsLimited, IsSomeOf, IsUnread, IsWhole, Meets, MeetsText, Tells, TellsFound, TellsOrShort, TellsText, has_history, read_limit, is_status, tail_line};
+ghost use Rattle.bts_tool.specs.Causes.{IsRead, IsSaid, IsHistory, IsLimited, IsSomeOf, IsUnread, IsWhole, Meets, MeetsText, Tells, TellsText, has_history, read_limit, is_status, stop_line, stop_status};
 
 use crate::cause::{Cause, bad_session_line};
 use crate::session::{Ran, do_session};
 use crate::tail::add_counted_line;
 use crate::words::limit_of;
-use bts_command::{Ended, History};
+use bts_command::History;
 use bts_driver::Stop;
 use bts_io::{ReadFault, Sink, Source, read_all, write_all};
-use bts_names::{Blob, NoMemory};
-use bts_report::report;
+use bts_names::Blob;
+use bts_report::{TellError, write_report};
 use bts_script::{ScriptError, Word};
 use bts_session::read_session;
 use std::alloc::Global;
@@ -68,20 +67,12 @@ fn run<S: Source>(alloc: Global, words: &[String], source: &mut S) -> Result<Ran
     }
 }
 
-/// The report of a history, and a line of a word and a count.
-fn report_text(alloc: Global, history: &[Ended], word: &[u8], n: u64) -> Result<Blob, NoMemory>
-    ensures { IfOk result (λ text. text ≡ report history.now ++ counted_line word.now n) }
-{
-    let mut text = report(alloc, history)?;
-    add_counted_line(&mut text, word, n)?;
-    Ok(text)
-}
-
 /// Writes a text, and hands out the history with the status, or with the sink's.
 fn tell<K: Sink>(sink: &mut K, text: &[u8], status: u8, history: Option<History>) -> Outcome
     requires { status ≢ 5 }
     ensures history { result.history ≡ history }
-    ensures told { TellsText text.now status result.status (K.held sink.old) (K.held sink.new) }
+    ensures told { TellsText false text.now status result.status (K.held sink.old) (K.held sink.new) }
+    ensures made { TellsText true text.now status result.status (K.held sink.old) (K.held sink.new) }
     ensures fault { result.status ≡ 5 → Rose (K.faults sink.old) (K.faults sink.new) }
     ensures later { K.faults sink.old ≤ K.faults sink.new }
 {
@@ -91,40 +82,34 @@ fn tell<K: Sink>(sink: &mut K, text: &[u8], status: u8, history: Option<History>
     }
 }
 
-/// Tells want of memory.
-#[tactic(auto, unfolding(crate::specs::Causes::tail_line))]
-fn tell_short<K: Sink>(sink: &mut K, history: Option<History>) -> Outcome
-    ensures history { result.history ≡ history }
-    ensures told { TellsText (tail_line causes.NoMemory) 8 result.status (K.held sink.old) (K.held sink.new) }
-    ensures fault { result.status ≡ 5 → Rose (K.faults sink.old) (K.faults sink.new) }
-    ensures later { K.faults sink.old ≤ K.faults sink.new }
-{
-    tell(sink, b"no memory\n", 8, history)
-}
-
 /// Tells want of memory where no session was done.
+#[tactic(auto, unfolding(crate::specs::Causes::tail_line))]
 pub fn tell_no_memory<K: Sink>(sink: &mut K) -> Outcome
     ensures told { Tells (Err causes.NoMemory) result.status result.history (K.held sink.old) (K.held sink.new) }
     ensures fault { result.status ≡ 5 → Rose (K.faults sink.old) (K.faults sink.new) }
     ensures later { K.faults sink.old ≤ K.faults sink.new }
 {
-    tell_short(sink, None)
+    tell(sink, b"no memory\n", 8, None)
 }
 
-/// Tells the first bad line of a session, or want of memory for telling it.
+/// Tells the first bad line of a session.
 fn tell_bad_session<K: Sink>(alloc: Global, sink: &mut K, line: u32, reason: Word) -> Outcome
-    ensures told { TellsOrShort (Err (causes.BadSession line reason)) result.status result.history (K.held sink.old) (K.held sink.new) }
+    ensures told { Tells (Err (causes.BadSession line reason)) result.status result.history
+        (K.held sink.old) (K.held sink.new) }
     ensures fault { result.status ≡ 5 → Rose (K.faults sink.old) (K.faults sink.new) }
     ensures later { K.faults sink.old ≤ K.faults sink.new }
 {
     match bad_session_line(alloc, line, reason) {
         Ok(text) => tell(sink, text.as_slice(), 1, None),
-        Err(_) => tell_no_memory(sink),
+        Err(_) => Outcome {
+            status: 8,
+            history: None,
+        },
     }
 }
 
-/// Tells the units of a session, or want of memory for telling them.
-fn tell_units<K: Sink>(
+/// Tells a word and a count.
+fn tell_count<K: Sink>(
     alloc: Global,
     sink: &mut K,
     history: History,
@@ -134,47 +119,84 @@ fn tell_units<K: Sink>(
 ) -> Outcome
     requires { status ≢ 5 }
     ensures history { result.history ≡ Some history }
-    ensures told { TellsText (report history ++ counted_line word.now n) status result.status (K.held sink.old) (K.held sink.new)
-        ⊎ TellsText (tail_line causes.NoMemory) 8 result.status (K.held sink.old) (K.held sink.new) }
+    ensures told { TellsText true (counted_line word.now n) status result.status
+        (K.held sink.old) (K.held sink.new) }
     ensures fault { result.status ≡ 5 → Rose (K.faults sink.old) (K.faults sink.new) }
     ensures later { K.faults sink.old ≤ K.faults sink.new }
 {
-    match report_text(alloc, history.as_slice(), word, n) {
-        Ok(text) => tell(sink, text.as_slice(), status, Some(history)),
-        Err(_) => tell_short(sink, Some(history)),
+    let mut line = Blob::new(alloc);
+    match add_counted_line(&mut line, word, n) {
+        Ok(()) => tell(sink, line.as_slice(), status, Some(history)),
+        Err(_) => Outcome {
+            status: 8,
+            history: Some(history),
+        },
     }
 }
 
-/// Tells a session that was done, or that stopped.
+/// Tells why a session goes no further.
+#[tactic(auto, unfolding(crate::specs::Causes::tail_line))]
+fn tell_stop<K: Sink>(alloc: Global, sink: &mut K, history: History, stop: Stop) -> Outcome
+    ensures history { result.history ≡ Some history }
+    ensures told { TellsText true (stop_line history stop) (stop_status stop) result.status
+        (K.held sink.old) (K.held sink.new) }
+    ensures fault { result.status ≡ 5 → Rose (K.faults sink.old) (K.faults sink.new) }
+    ensures later { K.faults sink.old ≤ K.faults sink.new }
+{
+    match stop {
+        Stop::Done => {
+            let count = history.len() as u64;
+            tell_count(alloc, sink, history, b"END", count, 0)
+        }
+        Stop::Limit { count } => tell_count(alloc, sink, history, b"limit", count, 7),
+        Stop::NoMemory => tell(sink, b"no memory\n", 8, Some(history)),
+    }
+}
+
+/// Tells a session that was done, or that stopped: its report as it is made, and then why it goes no further.
 fn tell_ran<K: Sink>(alloc: Global, sink: &mut K, ran: Ran) -> Outcome
-    ensures told { TellsOrShort (Ok ran) result.status result.history (K.held sink.old) (K.held sink.new) }
+    ensures told { Tells (Ok ran) result.status result.history (K.held sink.old) (K.held sink.new) }
     ensures fault { result.status ≡ 5 → Rose (K.faults sink.old) (K.faults sink.new) }
     ensures later { K.faults sink.old ≤ K.faults sink.new }
 {
     let Ran { history, stop } = ran;
-    match stop {
-        Stop::Done => {
-            let count = history.len() as u64;
-            tell_units(alloc, sink, history, b"END", count, 0)
-        }
-        Stop::Limit { count } => tell_units(alloc, sink, history, b"limit", count, 7),
-        Stop::NoMemory => tell_short(sink, Some(history)),
+    match write_report(alloc, sink, history.as_slice()) {
+        Ok(()) => tell_stop(alloc, sink, history, stop),
+        Err(TellError::Sink) => Outcome {
+            status: 5,
+            history: Some(history),
+        },
+        Err(TellError::NoMemory) => Outcome {
+            status: 8,
+            history: Some(history),
+        },
+    }
+}
+
+/// Tells why no session was done.
+#[tactic(auto, unfolding(crate::specs::Causes::tail_line))]
+fn tell_cause<K: Sink>(alloc: Global, sink: &mut K, cause: Cause) -> Outcome
+    ensures told { Tells (Err cause) result.status result.history (K.held sink.old) (K.held sink.new) }
+    ensures fault { result.status ≡ 5 → Rose (K.faults sink.old) (K.faults sink.new) }
+    ensures later { K.faults sink.old ≤ K.faults sink.new }
+{
+    match cause {
+        Cause::WordsRefused => tell(sink, b"words refused\n", 2, None),
+        Cause::SourceFault => tell(sink, b"source fault\n", 4, None),
+        Cause::BadSession { line, reason } => tell_bad_session(alloc, sink, line, reason),
+        Cause::NoMemory => tell_no_memory(sink),
     }
 }
 
 /// Tells what was found.
-#[tactic(auto, unfolding(crate::specs::Causes::tail_line))]
 fn tell_found<K: Sink>(alloc: Global, sink: &mut K, found: Result<Ran, Cause>) -> Outcome
-    ensures told { TellsFound found result.status result.history (K.held sink.old) (K.held sink.new) }
+    ensures told { Tells found result.status result.history (K.held sink.old) (K.held sink.new) }
     ensures fault { result.status ≡ 5 → Rose (K.faults sink.old) (K.faults sink.new) }
     ensures later { K.faults sink.old ≤ K.faults sink.new }
 {
     match found {
         Ok(ran) => tell_ran(alloc, sink, ran),
-        Err(Cause::WordsRefused) => tell(sink, b"words refused\n", 2, None),
-        Err(Cause::SourceFault) => tell(sink, b"source fault\n", 4, None),
-        Err(Cause::BadSession { line, reason }) => tell_bad_session(alloc, sink, line, reason),
-        Err(Cause::NoMemory) => tell_no_memory(sink),
+        Err(cause) => tell_cause(alloc, sink, cause),
     }
 }
 
@@ -207,8 +229,9 @@ pub fn bts_command<S: Source, K: Sink>(
     ensures history { IfSome result.history (IsHistory (limit_of (map string_bytes words.now)) (S.left source.old)) }
     ensures history_there { IsSome result.history → has_history result.status ≡ true }
 
-    // What is written is a front of the report and tail line of the first cause that is met, and all of
-    // it but where the sink failed; the tail line of a bad session tells its first bad line and the reason.
+    // What is written is a front of the report and tail line of the first cause that is met, and all of it but
+    // where the sink failed or there was no memory for it; nothing follows a front. The tail line of a bad session
+    // tells its first bad line and the reason.
     ensures text { (found : Result Ran Cause)
         × Meets (limit_of (map string_bytes words.now)) (S.left source.old) (S.left source.new)
         (S.faults source.old) (S.faults source.new) found
