@@ -40,7 +40,7 @@ put_none Commit repo = refl
 put_none Rollback repo = refl
 put_none (Abend code) repo = refl
 
-once_at_most : (kind : UnitKind) → definitions_by kind ≤ 1
+pub once_at_most : (kind : UnitKind) → definitions_by kind ≤ 1
 once_at_most (unit.Request item key) = omega arith
 once_at_most kind = omega arith
 

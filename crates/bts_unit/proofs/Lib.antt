@@ -13,7 +13,7 @@ pub mod Repeated
 pub mod Applied
 pub mod Alike
 pub mod AtEnd
-mod Committed
+pub mod Committed
 mod Expired
 mod Leading
 pub mod ShortReplies

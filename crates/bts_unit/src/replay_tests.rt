@@ -3,8 +3,7 @@ ghost use Rattle.std.specs.Prelude.{◌≡◌, ◌≤◌, ◌^◌, IfSome, IsTru
 ghost use Rattle.std.specs.List.{AllByRecursion, list_all};
 ghost use Rattle.bts_command.specs.Given.{IsGiven};
 ghost use Rattle.bts_names.specs.Names.{ActivityPath};
-ghost use Rattle.bts_rows.specs.Bounds.{is_within};
-ghost use Rattle.bts_tree.specs.Soundness.{AreSound};
+ghost use Rattle.bts_tree.specs.Soundness.{AreSound, is_within};
 ghost use Rattle.bts_unit.specs.OneFrame.{is_of_one_frame};
 ghost use Rattle.bts_unit.specs.Refusals.{is_played};
 
