@@ -33,7 +33,7 @@ stays_there t whole (u ∷ part) l h = (
   stays_there t whole part l.1 h.1,
 )
 
-each_there : (repo : Processes) → IsStrictlySortedBy key_cmp (keys_of_processes repo) → AllByRecursion (λ u. process_at u.key repo ≡ u) repo
+pub each_there : (repo : Processes) → IsStrictlySortedBy key_cmp (keys_of_processes repo) → AllByRecursion (λ u. process_at u.key repo ≡ u) repo
 each_there [] s = tt
 each_there (t ∷ repo) s = (
   ap (λ b. cond b t (process_at t.key repo)) (itself_same t.key),

@@ -1,4 +1,5 @@
 mod Found
 mod Index
-mod Keys
+pub mod Keys
 mod Merged
+mod Made

@@ -1,10 +1,11 @@
 // A repository with an index of what may run.
-ghost use Rattle.std.specs.Prelude.{◌≡◌, [], OnOk, OnErr, true};
-ghost use Rattle.bts_index.specs.Indexes.{forgotten};
+ghost use Rattle.std.specs.Prelude.{◌≡◌, OnOk, OnErr, IfOk, true};
+ghost use Rattle.bts_index.specs.Indexes.{forgotten, has_key, is_awake, is_still_kept};
+ghost use Rattle.bts_names.specs.declared.key.Key.{Key};
 ghost use Rattle.bts_tree.specs.Repositories as repo;
 ghost use Rattle.bts_tree.specs.Soundness.{AreSound};
 
-use crate::finding::{first_among, first_of};
+use crate::finding::{awake_keys, first_among, first_of};
 use bts_names::{Key, NoMemory, Path};
 use bts_tree::{Repository, Scope};
 use std::alloc::Global;
@@ -32,14 +33,17 @@ impl Model for IndexedRepository {
 }
 
 impl IndexedRepository {
-    /// No process, and no memory taken yet.
-    pub fn empty(alloc: Global) -> Self
-        ensures { result ≡ repo.stored_of [] }
+    /// The index over these processes: it keeps the keys of those that have an activation to run, and no other. The time
+    /// is that of a walk over all activities for each of those for which an activation is enabled.
+    pub fn of(alloc: Global, repository: Repository) -> Result<Self, NoMemory>
+        requires { AreSound repository.processes }
+        ensures processes { IfOk result (λ r. r.processes ≡ repository.processes) }
+        ensures keys { IfOk result
+            (λ r. (key : Key) → has_key key r.room ≡ is_awake key repository.processes) }
     {
-        IndexedRepository {
-            all: Repository::empty(alloc),
-            awake: BTreeSet::new(alloc),
-        }
+        let mut all = repository;
+        let awake = awake_keys(alloc, &mut all)?;
+        Ok(IndexedRepository { all, awake })
     }
 
     /// All processes, to be looked at.
@@ -95,7 +99,8 @@ impl IndexedRepository {
     /// Gives up the room for a key, if its process has no activation to run. The processes stay as they are. The time is
     /// that of a walk over the activities of that process, and of a look-up.
     pub fn forget_idle(&mut self, key: &Key)
-        ensures { self.new ≡ forgotten key.now self.old }
+        ensures done { self.new ≡ forgotten key.now self.old }
+        ensures keys { (k : Key) → has_key k self.new.room ≡ is_still_kept key.now self.old k }
     {
         if first_of(&self.all, key).is_none() {
             self.awake.remove(key);
