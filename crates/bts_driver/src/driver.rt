@@ -4,7 +4,7 @@ ghost use Rattle.bts_driver.specs.Turns.{Grows, HasMore, is_ended, stop_answer};
 ghost use Rattle.bts_interp.specs.Jobs as jobs;
 ghost use Rattle.bts_interp.specs.Stations.{PutsNone};
 
-use bts_interp::{Done, FinishError, Job, Naming, Station, Steps, Work, run_job};
+use bts_interp::{Done, FinishError, Job, Naming, Refused, Station, Steps, Work, run_job};
 use std::alloc::Global;
 use std::sync::ledger::Ledger;
 
@@ -88,7 +88,7 @@ pub fn drain<N: Naming, S: Station<Job<N>, Done<N>>, L: Ledger>(
             Ok(Work::Wait) => unreachable!(),
             Ok(Work::Limit { count }) => return Stop::Limit { count },
             Ok(Work::Done) => return Stop::Done,
-            Err(_) => return Stop::NoMemory,
+            Err(Refused::NoMemory) => return Stop::NoMemory,
         };
         match take_turn(alloc, station, job, steps) {
             Turn::Ended => {}

@@ -12,7 +12,7 @@ use Rattle.bts_unit.specs.Soundness.{IsSoundWithin}
 use Rattle.bts_interp.specs.Budgets.{data_bytes, statements_to, statements_with}
 use Rattle.bts_interp.specs.NextCalls.{own_calls}
 use Rattle.bts_interp.specs.Ready.{AreExecutable, IsExecutable, number_limit}
-use Rattle.bts_interp.specs.Running.{CanGoOn, FollowsFirst, HasFrame, IsBegun, IsUnderWay}
+use Rattle.bts_interp.specs.Running.{CanGoOn, FollowsFirst, HasFrame, IsBegun, IsUnderWay, first_point}
 use Rattle.bts_interp.specs.Steps.{Script, place_behind}
 use Rattle.bts_interp.specs.Talks.{Follows}
 use Rattle.bts_interp.specs.Texts.{Programs, Texts, no_program, script_in}
@@ -64,13 +64,13 @@ module _ (kind : UnitKind) (moment : ℕ) (texts : Texts) (u : UnitOfWork) (b : 
     frame = subst (λ fs. HasFrame (λ f. Unit {0}) fs u.end) (sym frames_are) tt;
     few_calls = subst (λ cs. length cs ≤ 500) (sym no_calls) (lit≤ tt);
     sound = b.sound;
-    within = subst (λ cs. IsSoundWithin (number_limit + length cs) u) (sym no_calls) (subst (λ n. IsSoundWithin n u) (sym (add-zero number_limit)) b.within);
+    within = subst (λ cs. IsSoundWithin number_limit (number_limit + length cs) u) (sym no_calls) (subst (λ n. IsSoundWithin number_limit n u) (sym (add-zero number_limit)) b.within);
   }
 
   follows_script : script_in texts (path_of kind) (program_at (path_of kind) u.base) ≡ script
   follows_script = ap (script_in texts (path_of kind)) (sym (program_is ∙ ap (λ fs. option_and_then (λ f. f.program) (top_frame fs)) frames_are)) ∙ sym script_is
 
-  pub first_under_way : (steps : ℕ) → IsUnderWay texts script u u script 0 0 steps steps
+  pub first_under_way : (steps : ℕ) → IsUnderWay texts script u steps u (first_point script steps)
   unfolding unit_behind run own_calls place_behind statements_with
   first_under_way steps = record {
     open_first = ap (λ v. v.end) b.begun;

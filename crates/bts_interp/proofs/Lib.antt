@@ -13,3 +13,4 @@ mod Calling
 mod Numbered
 mod Beginning
 mod Finished
+mod Few

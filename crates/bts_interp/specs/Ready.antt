@@ -8,8 +8,8 @@ use Rattle.bts_command.specs.declared.ended.UnitKind.{UnitKind}
 use Rattle.bts_forms.specs.declared.statement.Statement.{Statement}
 use Rattle.bts_forms.specs.declared.statement.Statement.TheVariants as statement
 use Rattle.bts_tree.specs.Processes.{Process}
-use Rattle.bts_tree.specs.Soundness.{IsSoundInFrames}
-use Rattle.bts_rows.specs.Bounds.{is_within, makes_more}
+use Rattle.bts_tree.specs.Soundness.{IsSoundInFrames, is_within}
+use Rattle.bts_rows.specs.Bounds.{makes_more}
 use Rattle.bts_command.specs.Given.{IsGiven}
 use Rattle.bts_unit.specs.OneFrame.{is_of_one_frame, may_begin}
 use Rattle.bts_session.specs.declared.session.Session.{Session}
@@ -47,7 +47,7 @@ number_limit = 2 ^ 62
 pub record IsRunnable (kind : UnitKind) (base : Process) (script : Texts) : Type 0 where
   pub sound : IsSoundInFrames [] base
   pub begins : may_begin kind base ≡ true
-  pub bounded : is_within number_limit base ≡ true
+  pub bounded : is_within number_limit number_limit base ≡ true
   pub texts : AreExecutable script
 
 -- a job of a name: it follows the texts of the name's session

@@ -1,12 +1,13 @@
 -- What a station tells of the work that it gives out and takes back.
 use Rattle.std.specs.Prelude.{◌≡◌, ℕ, ◌<◌, ◌≤◌, Bool, true, false, not, nat_eq, List, [], ◌∷◌, ◌++◌, length, Option, Some, None, Result, Ok, Err}
 use Rattle.std.specs.List.{filter, list_any}
-use Rattle.bts_names.specs.declared.memory.NoMemory.{NoMemory}
 use Rattle.bts_command.specs.declared.ended.Ended.{Ended}
 use Rattle.bts_command.specs.declared.ended.UnitKind.{UnitKind}
 use Rattle.bts_interp.specs.Jobs as jobs
 use Rattle.bts_interp.specs.declared.station.FinishError.{FinishError}
 use Rattle.bts_interp.specs.declared.station.FinishError.TheVariants as failure
+use Rattle.bts_interp.specs.declared.station.Refused.{Refused}
+use Rattle.bts_interp.specs.declared.station.Refused.TheVariants as refused
 use Rattle.bts_interp.specs.declared.station.Work.{Work}
 use Rattle.bts_interp.specs.declared.station.Work.TheVariants as work
 
@@ -28,13 +29,13 @@ pub data Answer : Type 0 where
   all_done : Answer
   limit_met : ℕ → Answer
 
-abbrev pub answer_of : {J : Type 0} → Result (Work J) NoMemory → Option Answer
+abbrev pub answer_of : {J : Type 0} → Result (Work J) Refused → Option Answer
 answer_of (Ok work.Done) = Some all_done
 answer_of (Ok (work.Limit count)) = Some (limit_met count)
 answer_of _ = None
 
-abbrev pub is_no_memory : {J : Type 0} → Result (Work J) NoMemory → Bool
-is_no_memory (Err x) = true
+abbrev pub is_no_memory : {J : Type 0} → Result (Work J) Refused → Bool
+is_no_memory (Err refused.NoMemory) = true
 is_no_memory (Ok x) = false
 
 -- ---- what a call did to the ended units and to the rest
@@ -51,7 +52,7 @@ pub record PutsNone (before now : List Ended) (rest rest' : ℕ) : Type 0 where
 
 -- take_work: a unit went out under a ticket that wasn't out, or an item was ended, or nothing changed; what must come
 -- back first is out
-abbrev pub Takes : {J : Type 0} → (J → jobs.Job) → List Ended → List Ended → ℕ → ℕ → List Out → List Out → Result (Work J) NoMemory → Type 0
+abbrev pub Takes : {J : Type 0} → (J → jobs.Job) → List Ended → List Ended → ℕ → ℕ → List Out → List Out → Result (Work J) Refused → Type 0
 Takes job before now r r' out out' (Ok (work.Job j)) = PutsNone before now r r' × (has_ticket (job j).ticket out ≡ false) × (out' ≡ out ++ ((job j).ticket, (job j).unit) ∷ [])
 Takes job before now r r' out out' (Ok (work.Ended place)) = PutsOne before now r r' × (place ≡ length now) × (out' ≡ out)
 Takes job before now r r' out out' (Ok work.Wait) = PutsNone before now r r' × (out ≡ [] → ⊥) × (out' ≡ out)

@@ -3,8 +3,7 @@ ghost use Rattle.std.specs.Prelude.{◌≡◌, ◌+◌, ◌<◌, [], length, IfS
 ghost use Rattle.std.specs.List.{AllByRecursion};
 ghost use Rattle.bts_command.specs.Given.{IsGiven};
 ghost use Rattle.bts_interp.specs.Ready.{IsExecutable, number_limit};
-ghost use Rattle.bts_rows.specs.Bounds.{is_within};
-ghost use Rattle.bts_tree.specs.Soundness.{IsSoundInFrames};
+ghost use Rattle.bts_tree.specs.Soundness.{IsSoundInFrames, is_within};
 ghost use Rattle.bts_unit.specs.OneFrame.{is_of_one_frame, is_ready_in};
 ghost use Rattle.bts_unit.specs.Soundness.{IsSoundUnit, IsSoundWithin};
 
@@ -31,7 +30,7 @@ fn a_key() -> Option<Key> {
 /// A request on a process that was never defined, before its first call.
 fn a_request(alloc: Global, key: &Key, moment: Moment) -> Option<Unit>
     ensures sound { IfSome result (λ u. IsSoundUnit u) }
-    ensures within { IfSome result (λ u. IsSoundWithin (0 + length u.calls) u) }
+    ensures within { IfSome result (λ u. IsSoundWithin 0 (0 + length u.calls) u) }
 {
     let kind = UnitKind::Request { item: 1, key: *key };
     let base = Scope::undefined(alloc, *key);
@@ -46,9 +45,9 @@ fn call(unit: &mut Unit, command: Command) -> bool
     requires given { IsGiven command }
     requires one_frame { IsTrue (is_of_one_frame None command) }
     requires sound { IsSoundUnit unit.old }
-    requires within { IsSoundWithin (0 + length unit.old.calls) unit.old }
+    requires within { IsSoundWithin 0 (0 + length unit.old.calls) unit.old }
     ensures sound { IsSoundUnit unit.new }
-    ensures within { IsSoundWithin (0 + length unit.new.calls) unit.new }
+    ensures within { IsSoundWithin 0 (0 + length unit.new.calls) unit.new }
 {
     let Some(frame) = unit.frame() else {
         return false;
@@ -71,7 +70,7 @@ fn define() -> Option<Command>
 /// What a request leaves that defines a process, whose root has the program ROOT, and runs it.
 fn a_started_process(alloc: Global, key: &Key, moment: Moment) -> Option<Scope>
     ensures sound { IfSome result (λ s. IsSoundInFrames [] s.process) }
-    ensures within { IfSome result (λ s. is_within number_limit s.process ≡ true) }
+    ensures within { IfSome result (λ s. is_within number_limit number_limit s.process ≡ true) }
 {
     let mut request = a_request(alloc, key, moment)?;
     let run = Command::Run {

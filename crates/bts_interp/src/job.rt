@@ -1,5 +1,6 @@
 // Units that are taken away to be run, and what became of them.
-ghost use Rattle.std.specs.Prelude.{◌≡◌};
+ghost use Rattle.std.specs.Prelude.{◌≡◌, ◌≤◌, length};
+ghost use Rattle.bts_interp.specs.Budgets.{call_limit};
 ghost use Rattle.bts_interp.specs.Items.{texts_of};
 ghost use Rattle.bts_interp.specs.Errands.{job_from};
 ghost use Rattle.bts_interp.specs.Jobs as jobs;
@@ -264,7 +265,8 @@ impl<N: Naming> Done<N> {
 
     /// What every one keeps, for the proofs of callers; it does nothing.
     pub fn facts(&self)
-        ensures { jobs.IsDone self.now }
+        ensures done { jobs.IsDone self.now }
+        ensures few { length self.now.calls ≤ call_limit }
     {
         let _ = &self.job;
     }

@@ -25,8 +25,9 @@ pub use job::{Done, Job};
 pub use laws::texts_allow_one_talk;
 pub use naming::Naming;
 pub use running::run_job;
-pub use station::{FinishError, Station, Work};
+pub use station::{FinishError, Refused, Station, Work};
 pub use steps::Steps;
+pub use texts::item_of;
 
 #[cfg(test)]
 mod activation_tests;

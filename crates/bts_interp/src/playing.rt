@@ -3,7 +3,7 @@ ghost use Rattle.std.specs.Prelude.{◌≡◌, ◌+◌, ◌<◌, ◌≤◌, ℕ,
 ghost use Rattle.bts_unit.specs.Frames.{UnitOfWork};
 ghost use Rattle.bts_interp.specs.Budgets as budgets;
 ghost use Rattle.bts_interp.specs.Reaching.{reached_of};
-ghost use Rattle.bts_interp.specs.Running.{CanGoOn, GoesOn, IsPlayed, IsUnderWay, MayCall, Stops, turns_left};
+ghost use Rattle.bts_interp.specs.Running.{CanGoOn, GoesOn, IsPlayed, IsUnderWay, MayCall, Stops, first_point, point_of, turns_left};
 ghost use Rattle.bts_interp.specs.Steps.{statement_limit};
 ghost use Rattle.bts_interp.specs.Texts.{Texts};
 
@@ -52,8 +52,9 @@ fn next_command<'a, L: Ledger>(
     requires can { CanGoOn script.now progress.place.now unit.old }
     requires used { progress.used ≤ statement_limit }
     ensures next { MatchOption result
-        (Stops script.now unit.old progress.entry.place.now progress.entry.used progress.entry.bytes steps.old unit.new steps.new)
-        (λ r. (unit.new ≡ unit.old) × MayCall script.now progress.entry.place.now unit.old progress.entry.used progress.entry.bytes (reached_of unit.old.calls r)
+        (Stops script.now unit.old (point_of progress.entry steps.old) unit.new steps.new)
+        (λ r. (unit.new ≡ unit.old)
+        × MayCall script.now unit.old (point_of progress.entry steps.old) (reached_of unit.old.calls r)
         × (steps.new + 1 ≡ steps.old + r.count)) }
     ensures later { steps.old ≤ steps.new }
 {
@@ -84,8 +85,10 @@ fn advance<'a, L: Ledger>(
     requires open { is_none unit.old.end ≡ true }
     requires can { CanGoOn script.now progress.place.now unit.old }
     requires used { progress.used ≤ statement_limit }
-    ensures goes_on { IfOk result (λ p. GoesOn script.now unit.old progress.entry.place.now progress.entry.used progress.entry.bytes steps.old unit.new p.place.now p.used p.bytes steps.new) }
-    ensures can { IfOk result (λ p. (is_none unit.new.end ≡ true → CanGoOn script.now p.place.now unit.new) × (p.used ≤ statement_limit)) }
+    ensures goes_on { IfOk result (λ p. GoesOn script.now
+        unit.old (point_of progress.entry steps.old) unit.new (point_of p steps.new)) }
+    ensures can { IfOk result (λ p. (p.used ≤ statement_limit)
+        × (is_none unit.new.end ≡ true → CanGoOn script.now p.place.now unit.new)) }
     ensures turns { OnOk result (turns_left unit.new < turns_left unit.old) }
     ensures base { unit.new.base ≡ unit.old.base }
     ensures later { steps.old ≤ steps.new }
@@ -114,7 +117,7 @@ pub(crate) fn play<L: Ledger>(
 ) -> Result<(), NoMemory>
     requires can { CanGoOn script.now script.now unit.old }
     ensures played { OnOk result ((texts : Texts) (begun : UnitOfWork) (before : ℕ)
-        → IsUnderWay texts script.now begun unit.old script.now 0 0 before steps.old
+        → IsUnderWay texts script.now begun before unit.old (first_point script.now steps.old)
         → IfSome unit.new.end (λ e. IsPlayed texts begun unit.new before steps.new e)) }
     ensures ended { OnOk result (is_some unit.new.end ≡ true) }
     ensures base { unit.new.base ≡ unit.old.base }

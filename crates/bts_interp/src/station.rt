@@ -5,7 +5,7 @@ ghost use Rattle.bts_interp.specs.Jobs as jobs;
 ghost use Rattle.bts_interp.specs.Stations.{Answer, Out, Finishes, PutsNone, Takes, answer_of, has_ticket, is_no_memory, without};
 
 use crate::Steps;
-use bts_names::{Moment, NoMemory};
+use bts_names::Moment;
 use std::sync::ledger::Ledger;
 use thiserror::Error;
 
@@ -22,6 +22,13 @@ pub enum Work<J> {
     Limit { count: u64 },
     /// All is done.
     Done,
+}
+
+/// Why no work is given out.
+#[derive(Clone, Copy, Debug, PartialEq, Eq, Error)]
+pub enum Refused {
+    #[error("no memory")]
+    NoMemory,
 }
 
 /// Why a unit isn't ended.
@@ -61,7 +68,7 @@ pub trait Station<J, D> {
     ghost due: { Self → Answer → Type 0 };
 
     /// Gives out the next unit to be run, or says why there is none. An item that needs no run is ended at once.
-    fn take_work(&mut self) -> Result<Work<J>, NoMemory>
+    fn take_work(&mut self) -> Result<Work<J>, Refused>
         ensures told { IfSome (answer_of result) (λ a. due self.new a × (self.new ≡ self.old)) }
         ensures exactly { (a : Answer) → due self.old a → (answer_of result ≡ Some a) ⊎ (is_no_memory result ≡ true) }
         ensures takes { Takes job (ended self.old) (ended self.new) (rest self.old) (rest self.new) (out self.old) (out self.new) result }

@@ -12,8 +12,8 @@ use bts_names::ProgName;
 use bts_session::{Item, Session};
 use bts_unit::{Frame, Unit};
 
-/// The number of the session's item that a unit does.
-fn item_number(unit: &UnitKind) -> Option<u32>
+/// The number of the session's item that a unit does; None where it does none.
+pub fn item_of(unit: &UnitKind) -> Option<u32>
     ensures { result ≡ items.item_of unit.now }
 {
     match unit {
@@ -45,7 +45,7 @@ fn item_at(session: &Session, number: u32) -> Option<&Item>
 fn block_of<'a>(session: &'a Session, unit: &UnitKind) -> &'a [Statement]
     ensures { result.now ≡ items.block_in (items.item_done session.now unit.now) }
 {
-    let Some(number) = item_number(unit) else {
+    let Some(number) = item_of(unit) else {
         return &[];
     };
     let Some(item) = item_at(session, number) else {

@@ -1,5 +1,5 @@
 -- What ending a unit, and taking one back, does as a station's.
-use Rattle.std.proofs.Common.{◌≡◌, ◌<◌, ◌≤◌, ℕ, ◌+◌, Bool, true, false, cond, not, ◌||◌, nat_eq, List, [], ◌∷◌, ◌++◌, length, length-append, map, is_some, IfOk, IfErr, MatchResult, Option, None, Some, Result, Ok, Err, refl, sym, ap, ◌∙◌, subst, arith}
+use Rattle.std.proofs.Common.{◌≡◌, ◌<◌, ◌≤◌, ◌*◌, ℕ, ◌+◌, Bool, true, false, cond, not, ◌||◌, nat_eq, List, [], ◌∷◌, ◌++◌, length, length-append, map, is_some, IfOk, IfErr, MatchResult, Option, None, Some, Result, Ok, Err, refl, sym, ap, ◌∙◌, subst, arith}
 use Rattle.std.specs.List.{AllByRecursion, cons_option, find}
 use Rattle.std.specs.Option.{option_map}
 use Rattle.bts_command.specs.declared.ended.Ended.{Ended}
@@ -10,7 +10,7 @@ use Rattle.bts_interp.specs.Stations.{Finishes, Out, PutsNone, PutsOne, has_tick
 use Rattle.bts_interp.specs.declared.station.FinishError.{FinishError}
 use Rattle.bts_interp.specs.declared.station.FinishError.TheVariants as failure
 use Rattle.bts_region.specs.Answers.{Ends, Refuses, unit_out, with_ended, with_out}
-use Rattle.bts_region.specs.AsStation.{IsRegionWithin, MayEnd, rest_of}
+use Rattle.bts_region.specs.AsStation.{IsNothingOwed, IsRegionWithin, MayEnd, left_of, rest_of}
 use Rattle.bts_region.specs.Enabled.{least}
 use Rattle.bts_region.specs.Histories.{IsLegal}
 use Rattle.bts_region.specs.Items.{items_of}
@@ -77,7 +77,11 @@ one_at_least (Some n) a h = omega arith
 one_at_least None true h = omega arith
 one_at_least None false h = cc
 
-module _ (old new : RegionState) (d : jobs.Done) (place : ℕ) (kept : IsKept old) (may : AllByRecursion (MayEnd old) (kinds_out old)) (h : Ends old new d place) where
+-- each unit that is counted stands for more than is owed where nothing is
+pub less_is_left : (left left' owing owing' : ℕ) → left' < left → owing' ≡ 0 → 2_000 * left' + owing' < 2_000 * left + owing
+less_is_left left left' owing owing' l none = omega (arith, l, none)
+
+module _ (old new : RegionState) (d : jobs.Done) (place : ℕ) (kept : IsKept old) (may : AllByRecursion (MayEnd old) (kinds_out old)) (none : IsNothingOwed new) (h : Ends old new d place) where
   abbrev e : Ended
   e = h.0
 
@@ -90,14 +94,17 @@ module _ (old new : RegionState) (d : jobs.Done) (place : ℕ) (kept : IsKept ol
   legal : IsLegal old.session old.opening (old.history ++ e ∷ [])
   legal = legal_more old.session old.history old.opening e kept.legal h.2
 
-  rest_falls : rest_of new < rest_of old
-  rest_falls =
-      let same = ap rest_of h.1 in
+  fewer_left : left_of new < left_of old
+  fewer_left =
+      let same = ap left_of h.1 in
       let fits = items_fit old.session old.opening (old.history ++ e ∷ []) legal in
       let items = ap length (items_more old.history e) ∙ length-append (items_of old.history) (cons_option (item_of e.unit) []) in
       let made = activations_more old.history e in
       let one = one_at_least (item_of e.unit) (is_activation e.unit) one_may.counted in
       let limited = one_may.limited in omega (arith, same, fits, items, made, one, limited)
+
+  rest_falls : rest_of new < rest_of old
+  rest_falls = less_is_left (left_of old) (left_of new) _ _ fewer_left none
 
   pub one_put : PutsOne old.history new.history (rest_of old) (rest_of new)
   one_put = record { one = (e, ap (λ s. s.history) h.1); falls = rest_falls }
@@ -133,10 +140,13 @@ module _ (old new : RegionState) (d : jobs.Done) (place : ℕ) (kept : IsKept ol
 
 -- ---- what the call tells
 
-none_put : (old new : RegionState) → new ≡ old → PutsNone old.history new.history (rest_of old) (rest_of new)
-none_put old new same = record { same = ap (λ s. s.history) same; stays = let r = ap rest_of same in omega (arith, r) }
+pub no_more : (rest rest' : ℕ) → rest' ≡ rest → rest' ≤ rest
+no_more rest rest' e = omega (arith, e)
 
-module _ (old new : RegionState) (d : jobs.Done) (kept : IsKept old) (may : AllByRecursion (MayEnd old) (kinds_out old)) where
+pub none_put : (old new : RegionState) → new ≡ old → PutsNone old.history new.history (rest_of old) (rest_of new)
+none_put old new same = record { same = ap (λ s. s.history) same; stays = no_more (rest_of old) (rest_of new) (ap rest_of same) }
+
+module _ (old new : RegionState) (d : jobs.Done) (kept : IsKept old) (may : AllByRecursion (MayEnd old) (kinds_out old)) (none : IsNothingOwed new) where
   abbrev HasEnded : Result ℕ (FinishError × jobs.Done) → Type 0
   HasEnded r = IfOk r (λ place. Ends old new d place)
 
@@ -144,16 +154,16 @@ module _ (old new : RegionState) (d : jobs.Done) (kept : IsKept old) (may : AllB
   HasNotEnded r = IfErr r (λ x. (x.1 ≡ d) × (new ≡ old) × Refuses old d x.0)
 
   pub finishes : (r : Result ℕ (FinishError × jobs.Done)) → HasEnded r → HasNotEnded r → Finishes (λ x. x) old.history new.history (rest_of old) (rest_of new) old.out new.out d r
-  finishes (Ok place) h n = (one_put old new d place kept may h, h.5, ticket_out d.job.ticket h.0.unit old.out h.4, ap (λ s. s.out) h.1)
+  finishes (Ok place) h n = (one_put old new d place kept may none h, h.5, ticket_out d.job.ticket h.0.unit old.out h.4, ap (λ s. s.out) h.1)
   finishes (Err (failure.NotOut t, x)) h n = (none_put old new n.1, n.2.0, n.2.1, ap (λ s. s.out) n.1, n.0)
   finishes (Err (failure.NoMemory, x)) h n = (none_put old new n.1, n.2, ap (λ s. s.out) n.1, n.0)
 
   pub finishes_within : (r : Result ℕ (FinishError × jobs.Done)) → HasEnded r → HasNotEnded r → (b : ℕ) → IsRegionWithin b old → IsRegionWithin b new
-  finishes_within (Ok place) h n b w = ended_within old new d place kept may h b w
+  finishes_within (Ok place) h n b w = ended_within old new d place kept may none h b w
   finishes_within (Err x) h n b w = subst (IsRegionWithin b) (sym n.1) w
 
   pub finishes_in_order : (r : Result ℕ (FinishError × jobs.Done)) → HasEnded r → HasNotEnded r → IsRegionInOrder old → IsRegionInOrder new
-  finishes_in_order (Ok place) h n o = ended_in_order old new d place kept may h o
+  finishes_in_order (Ok place) h n o = ended_in_order old new d place kept may none h o
   finishes_in_order (Err x) h n o = subst IsRegionInOrder (sym n.1) o
 
 -- ---- a unit was taken back

@@ -1,5 +1,5 @@
 -- A unit ends with the result that fits.
-use Rattle.std.proofs.Common.{◌≡◌, ◌≤◌, ◌*◌, ℕ, ◌+◌, Bool, true, false, not, cond, nat_eq, List, [], ◌∷◌, length, Option, None, Some, refl, sym, ap, ◌∙◌, subst, arith}
+use Rattle.std.proofs.Common.{◌≡◌, ◌≤◌, ◌*◌, ℕ, ◌+◌, Bool, true, false, not, cond, nat_eq, List, [], ◌∷◌, length, is_some, Option, None, Some, refl, sym, ap, ◌∙◌, subst, arith}
 use Rattle.std.specs.List.{enumerate_from, find, list_all}
 use Rattle.std.specs.Option.{option_map}
 use Rattle.std.proofs.lemmas.Bool.{eqb-true}
@@ -14,14 +14,15 @@ use Rattle.bts_interp.specs.Jobs as jobs
 use Rattle.bts_unit.specs.Calls.{unit_behind}
 use Rattle.bts_names.specs.Names.{Name}
 use Rattle.bts_names.specs.declared.key.Key.{Key}
+use Rattle.bts_region.specs.AsStation.{is_counted}
 use Rattle.bts_region.specs.Enabled.{is_enabled}
 use Rattle.bts_region.specs.Fitting.{job_of}
 use Rattle.bts_region.specs.Histories.{IsNext, number_behind}
 use Rattle.bts_region.specs.Items.{clock_in, is_for, rows_in}
 use Rattle.bts_region.specs.Keeps.{IsNextOut}
-use Rattle.bts_command.specs.Kinds.{is_activation, is_kept, is_rollback, key_of}
+use Rattle.bts_command.specs.Kinds.{is_kept, is_rollback, key_of}
 use Rattle.bts_region.specs.Positions.{Position}
-use Rattle.bts_rows.specs.Bounds.{is_lone, is_within}
+use Rattle.bts_rows.specs.Bounds.{is_lone}
 use Rattle.bts_rows.proofs.Bounds.{within_more}
 use Rattle.bts_rows.proofs.Repositories.{put_all, put_sound}
 use Rattle.bts_session.specs.declared.session.Item.{Item}
@@ -29,7 +30,7 @@ use Rattle.bts_session.specs.declared.session.Item.TheVariants as item
 use Rattle.bts_session.specs.declared.session.Session.{Session}
 use Rattle.bts_tree.specs.Processes.{Process}
 use Rattle.bts_tree.specs.Repositories.{Processes, process_at, put}
-use Rattle.bts_tree.specs.Soundness.{AreSound, IsSoundInFrames}
+use Rattle.bts_tree.specs.Soundness.{AreSound, IsSoundInFrames, bound_of_units, is_within}
 use Rattle.bts_unit.proofs.Applied.{within_all}
 use Rattle.bts_unit.specs.Frames.{OpenFrame, UnitOfWork}
 use Rattle.bts_unit.specs.Ends.{abended_whole}
@@ -143,7 +144,7 @@ kept_out session count (unit.Clock n) o = absurd o
 kept_out session count (unit.Settle n) o = absurd o
 kept_out session count (unit.Browse n) o = absurd o
 
-pub item_out : (session : Session) (count : ℕ) (u : UnitKind) → IsNextOut session count (Some u) → item_of u ≡ cond (is_activation u) None (Some (count + 1))
+pub item_out : (session : Session) (count : ℕ) (u : UnitKind) → IsNextOut session count (Some u) → item_of u ≡ cond (is_some (item_of u)) (Some (count + 1)) None
 item_out session count (unit.Request n k) o = ap Some o.0
 item_out session count (unit.Activation k p) o = refl
 item_out session count (unit.Notice k p) o = absurd o
@@ -151,6 +152,15 @@ item_out session count (unit.Expiry k p t) o = absurd o
 item_out session count (unit.Clock n) o = absurd o
 item_out session count (unit.Settle n) o = absurd o
 item_out session count (unit.Browse n) o = absurd o
+
+pub counted_out : (session : Session) (count : ℕ) (u : UnitKind) → IsNextOut session count (Some u) → is_counted u ≡ true
+counted_out session count (unit.Request n k) o = refl
+counted_out session count (unit.Activation k p) o = refl
+counted_out session count (unit.Notice k p) o = absurd o
+counted_out session count (unit.Expiry k p t) o = absurd o
+counted_out session count (unit.Clock n) o = absurd o
+counted_out session count (unit.Settle n) o = absurd o
+counted_out session count (unit.Browse n) o = absurd o
 
 -- an item that is there has a number up to their count
 found_below : (n k : ℕ) (items : List Item) (i : Item) → option_map (λ (x : Numbered). x.1) (find (λ (x : Numbered). nat_eq x.0 n) (enumerate_from k items)) ≡ Some i → n + 1 ≤ k + length items
@@ -169,7 +179,7 @@ request_below : (session : Session) (n : ℕ) (key : Key) (o : Option Item) → 
 request_below session n key None e h = cc
 request_below session n key (Some i) e h = item_below session n i e
 
-pub few_out : (session : Session) (count : ℕ) (u : UnitKind) → IsNextOut session count (Some u) → count ≤ length session.items → cond (is_activation u) count (count + 1) ≤ length session.items
+pub few_out : (session : Session) (count : ℕ) (u : UnitKind) → IsNextOut session count (Some u) → count ≤ length session.items → cond (is_some (item_of u)) (count + 1) count ≤ length session.items
 few_out session count (unit.Request n k) o l = let b : n ≤ length session.items = request_below session n k (item_at session n) refl o.1 in let e = o.0 in omega (arith, b, e)
 few_out session count (unit.Activation k p) o l = l
 few_out session count (unit.Notice k p) o l = absurd o
@@ -191,13 +201,13 @@ module _ (s : Process) (repo : Processes) where
   lone_behind Rollback all own = all
   lone_behind (Abend code) all own = put_all is_lone s repo all own
 
-  within_put : (units : ℕ) → list_all (is_within (500 * units)) repo ≡ true → is_within (500 * units + 500) s ≡ true → list_all (is_within (500 * (units + 1))) (put s repo) ≡ true
+  within_put : (units : ℕ) → bound_of_units units repo ≡ true → is_within (units + 1) (512 * units + 500) s ≡ true → bound_of_units (units + 1) (put s repo) ≡ true
   within_put units all own =
-      put_all (is_within (500 * (units + 1))) s repo (within_all (500 * units) (500 * (units + 1)) (omega arith) repo all)
-      (within_more (500 * units + 500) (500 * (units + 1)) s own (omega arith))
+      put_all (is_within (units + 1) (512 * (units + 1))) s repo (within_all units (512 * units) (units + 1) (512 * (units + 1)) (omega arith) (omega arith) repo all)
+      (within_more (units + 1) (512 * units + 500) (units + 1) (512 * (units + 1)) s own (omega arith) (omega arith))
 
-  pub within_behind : (e : End) (units : ℕ) → list_all (is_within (500 * units)) repo ≡ true → is_within (500 * units + 500) s ≡ true
-      → list_all (is_within (500 * cond (not (is_rollback e)) (units + 1) units)) (put_back e (Some s) repo) ≡ true
+  pub within_behind : (e : End) (units : ℕ) → bound_of_units units repo ≡ true → is_within (units + 1) (512 * units + 500) s ≡ true
+      → bound_of_units (cond (not (is_rollback e)) (units + 1) units) (put_back e (Some s) repo) ≡ true
   within_behind Commit units all own = within_put units all own
   within_behind Rollback units all own = all
   within_behind (Abend code) units all own = within_put units all own

@@ -17,7 +17,7 @@ use Rattle.bts_tree.specs.Repositories.{due_in, ready_in, untold_in}
 
 module _ {N : Type 0} (name : Named) (r : Inside N) (keeps : Keeps name r) where
   abbrev pub place : Position
-  place = position_of (state_of r)
+  place = position_of (state_of name r)
 
   pub is_quiet : IsQuiet r.session.value place r.items_ended
   is_quiet = record {
@@ -27,23 +27,23 @@ module _ {N : Type 0} (name : Named) (r : Inside N) (keeps : Keeps name r) where
     today = keeps.today.items;
   }
 
-  module _ (alone : (state_of r).out ≡ []) where
-    pub offers : offer (state_of r) ≡ on_offer r.session.value place r.items_ended is_quiet r.activations r.limit
-    offers = offer_alone_is (state_of r) alone ∙ ap (λ n. offer_in n r.limit (works r.session.value place)) (sym keeps.activations)
+  module _ (alone : (state_of name r).out ≡ []) where
+    pub offers : offer (state_of name r) ≡ on_offer r.session.value place r.items_ended is_quiet r.activations r.limit
+    offers = offer_alone_is (state_of name r) alone ∙ ap (λ n. offer_in n r.limit (works r.session.value place)) (sym keeps.activations)
 
-    pub finds_none : unit_behind r.session.value.items r.items_ended ≡ None → activation_or r.activations r.limit (ready_in r.repository.processes) all_done ≡ offer (state_of r)
+    pub finds_none : unit_behind r.session.value.items r.items_ended ≡ None → activation_or r.activations r.limit (ready_in r.repository.processes) all_done ≡ offer (state_of name r)
     finds_none e =
         ap (λ repo. activation_or r.activations r.limit (ready_in repo) all_done) keeps.processes
         ∙ sym (offers ∙ next_none r.session.value place r.items_ended is_quiet r.activations r.limit e)
 
-    pub finds_request : (u : UnitKind) (n : ℕ) (key : Key) → unit_behind r.session.value.items r.items_ended ≡ Some u → u ≡ unit.Request n key → work u ≡ offer (state_of r)
+    pub finds_request : (u : UnitKind) (n : ℕ) (key : Key) → unit_behind r.session.value.items r.items_ended ≡ Some u → u ≡ unit.Request n key → work u ≡ offer (state_of name r)
     finds_request u n key e q = sym (offers ∙ next_request r.session.value place r.items_ended is_quiet r.activations r.limit u n key e q)
 
     pub finds_other : (u : UnitKind) → unit_behind r.session.value.items r.items_ended ≡ Some u → ((n : ℕ) (key : Key) → u ≡ unit.Request n key → ⊥)
-        → activation_or r.activations r.limit (ready_in r.repository.processes) (work u) ≡ offer (state_of r)
+        → activation_or r.activations r.limit (ready_in r.repository.processes) (work u) ≡ offer (state_of name r)
     finds_other u e other =
         ap (λ repo. activation_or r.activations r.limit (ready_in repo) (work u)) keeps.processes
         ∙ sym (offers ∙ next_other r.session.value place r.items_ended is_quiet r.activations r.limit u e other)
 
-    pub offers_next : (u : UnitKind) → offer (state_of r) ≡ work u → IsNextWork r.session.value place r.items_ended is_quiet r.activations r.limit u
+    pub offers_next : (u : UnitKind) → offer (state_of name r) ≡ work u → IsNextWork r.session.value place r.items_ended is_quiet r.activations r.limit u
     offers_next u e = work_is_next r.session.value place r.items_ended is_quiet r.activations r.limit u (sym offers ∙ e)

@@ -26,7 +26,7 @@ use Rattle.bts_region.specs.declared.region.Region.TheInside.{Inside}
 use Rattle.bts_session.specs.declared.session.Item.TheVariants as item
 use Rattle.bts_tree.specs.Repositories.{Place, Processes, is_ready_at, process_at, ready_in}
 
-module _ {N : Type 0} (name : Named) (r : Inside N) (keeps : Keeps name r) (alone : (state_of r).out ≡ []) (u : UnitKind) (offered : offer (state_of r) ≡ work u) where
+module _ {N : Type 0} (name : Named) (r : Inside N) (keeps : Keeps name r) (alone : (state_of name r).out ≡ []) (u : UnitKind) (offered : offer (state_of name r) ≡ work u) where
   abbrev at : Position
   at = place name r keeps
 
@@ -95,6 +95,8 @@ module _ {N : Type 0} (name : Named) (r : Inside N) (keeps : Keeps name r) (alon
     sound = keeps.sound;
     within = keeps.within;
     lone = keeps.lone;
+    awake = keeps.awake;
+    may_open = keeps.may_open;
     today = keeps.today;
     small = keeps.small;
   }

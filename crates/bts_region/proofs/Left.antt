@@ -7,10 +7,13 @@ use Rattle.bts_command.specs.declared.command.Command.{Command}
 use Rattle.bts_command.specs.declared.ended.End.{End}
 use Rattle.bts_command.specs.declared.ended.UnitKind.{UnitKind}
 use Rattle.bts_command.specs.declared.ended.UnitKind.TheVariants as unit
-use Rattle.bts_rows.specs.Bounds.{is_lone, is_within}
+use Rattle.bts_rows.specs.Bounds.{is_lone, raised_by}
+use Rattle.bts_rows.specs.declared.held.Held.{Held}
+use Rattle.bts_rows.specs.declared.held.Held.TheVariants as held
 use Rattle.bts_rows.proofs.Bounds.{within_more}
+use Rattle.bts_rows.proofs.GrowthRows.{raised_once}
 use Rattle.bts_tree.specs.Processes.{Process}
-use Rattle.bts_tree.specs.Soundness.{IsSoundInFrames}
+use Rattle.bts_tree.specs.Soundness.{IsSoundInFrames, is_within}
 use Rattle.bts_unit.specs.Calls.{commands_of, run, unit_behind}
 use Rattle.bts_unit.specs.Frames.{UnitOfWork, path_of, start}
 use Rattle.bts_unit.specs.OneFrame.{may_begin}
@@ -39,9 +42,9 @@ makes_none_may (Some p) c m = m.makes_none
 
 -- ---- a unit that follows its texts to an end
 
-module _ (Q : ℕ → Process → Type 0) (Asked : Option ActivityPath → Command → Type 0) (rises : Rises Q Asked)
+module _ (Q : ℕ → Held → Process → Type 0) (Asked : Option ActivityPath → Command → Type 0) (rises : Rises Q Asked)
     (ask : (at : Option ActivityPath) (c : Command) → MayBeCalled c → Asked at c) (n : ℕ) where
-  module _ (kind : UnitKind) (moment : ℕ) (base : Process) (texts : Texts) (calls : List Call) (e : End) (r : IsRunnable kind base texts) (h : Q n base) where
+  module _ (kind : UnitKind) (moment : ℕ) (base : Process) (texts : Texts) (calls : List Call) (e : End) (r : IsRunnable kind base texts) (h : Q n held.Never base) where
     -- the unit behind its calls, and at its end
     abbrev u : UnitOfWork
     u = run (start kind moment base) (commands_of calls)
@@ -56,7 +59,7 @@ module _ (Q : ℕ → Process → Type 0) (Asked : Option ActivityPath → Comma
       few : n + length u.calls ≤ n + 500
       few = let made : length u.calls ≤ 500 = subst (λ l. length l ≤ 500) (sym same ∙ calls_kept u stop) f.count in omega arith
 
-      left_of : IsSoundInFrames [] at_end.now.process × Q (n + length u.calls) at_end.now.process
+      left_of : IsSoundInFrames [] at_end.now.process × Q (n + length u.calls) u.held at_end.now.process
       left_of =
           left_by_abend Q Asked rises n kind moment base (commands_of calls) r.begins r.sound h
           (as_asked Asked ask kind (commands_of calls) (follows_may texts (start kind moment base) r.texts calls f)) stop
@@ -65,10 +68,10 @@ module _ (Q : ℕ → Process → Type 0) (Asked : Option ActivityPath → Comma
 -- ---- a result that its texts give
 
 -- what a rising bound leaves of a job that was done
-module _ (Q : ℕ → Process → Type 0) (Asked : Option ActivityPath → Command → Type 0) (rises : Rises Q Asked)
-    (ask : (at : Option ActivityPath) (c : Command) → MayBeCalled c → Asked at c) (n : ℕ) (d : jobs.Done) (r : IsRunnable d.job.unit d.job.base d.job.texts) (i : jobs.IsDone d) (h : Q n d.job.base) where
+module _ (Q : ℕ → Held → Process → Type 0) (Asked : Option ActivityPath → Command → Type 0) (rises : Rises Q Asked)
+    (ask : (at : Option ActivityPath) (c : Command) → MayBeCalled c → Asked at c) (n : ℕ) (d : jobs.Done) (r : IsRunnable d.job.unit d.job.base d.job.texts) (i : jobs.IsDone d) (h : Q n held.Never d.job.base) where
   abbrev Left : Type 0
-  Left = IsSoundInFrames [] d.after × (m : ℕ) × (m ≤ n + 500) × Q m d.after
+  Left = IsSoundInFrames [] d.after × (m : ℕ) × (m ≤ n + 500) × (h : Held) × Q m h d.after
 
   module _ (kind : UnitKind) (runnable : IsRunnable kind d.job.base d.job.texts) (talk : IsTalk d.job.texts (start kind d.job.moment d.job.base) d.calls d.end) where
     abbrev last : UnitOfWork
@@ -85,7 +88,8 @@ module _ (Q : ℕ → Process → Type 0) (Asked : Option ActivityPath → Comma
           subst (IsSoundInFrames []) q x.0,
           n + length last.calls,
           few Q Asked rises ask n kind d.job.moment d.job.base d.job.texts d.calls d.end runnable h talk.follows same ended,
-          subst (Q (n + length last.calls)) q x.1,
+          last.held,
+          subst (Q (n + length last.calls) last.held) q x.1,
         )
 
   of_start : (kind : UnitKind) → d.job.unit ≡ kind → jobs.unit_of d.job ≡ start kind d.job.moment d.job.base → IsTalk d.job.texts (jobs.unit_of d.job) d.calls d.end → Left
@@ -123,11 +127,13 @@ module _ (d : jobs.Done) (r : IsRunnable d.job.unit d.job.base d.job.texts) (i :
   done_sound = (left (of_key d.job.base.key) any (key_rises d.job.base.key) any_may 0 d r i refl).0
 
   pub done_key : d.after.key ≡ d.job.base.key
-  done_key = (left (of_key d.job.base.key) any (key_rises d.job.base.key) any_may 0 d r i refl).3
+  done_key = (left (of_key d.job.base.key) any (key_rises d.job.base.key) any_may 0 d r i refl).4
 
-  -- no more than one number a call
-  pub done_within : (n : ℕ) → is_within n d.job.base ≡ true → is_within (n + 500) d.after ≡ true
-  done_within n w = let x = left within any within_rises any_may n d r i w in within_more x.1 (n + 500) d.after x.3 x.2
+  -- the generation rises once at most, and each number by one a call at most
+  pub done_within : (g n : ℕ) → is_within g n d.job.base ≡ true → is_within (g + 1) (n + 500) d.after ≡ true
+  done_within g n w =
+      let x = left (within g) any (within_rises g) any_may n d r i w in
+      within_more (raised_by x.3 g) x.1 (g + 1) (n + 500) d.after x.4 (raised_once x.3 g) x.2
 
   pub done_lone : is_lone d.job.base ≡ true → is_lone d.after ≡ true
-  done_lone l = (left lone makes_none lone_rises makes_none_may 0 d r i l).3
+  done_lone l = (left lone makes_none lone_rises makes_none_may 0 d r i l).4

@@ -10,7 +10,10 @@ pub mod Offers
 pub mod NextWork
 pub mod Finds
 pub mod Appending
+pub mod Owing
+mod Rousing
 pub mod Entering
+pub mod Begins
 pub mod Left
 pub mod FirstReady
 pub mod GoesOut

@@ -10,6 +10,7 @@ use Rattle.bts_interp.specs.Ready.{AreExecutable, IsExecutable, IsRunnable}
 use Rattle.bts_interp.specs.Stations.{Out}
 use Rattle.bts_names.specs.declared.key.Key.{Key}
 use Rattle.bts_region.specs.Enabled.{is_enabled}
+use Rattle.bts_region.proofs.Owing.{nothing_owed}
 use Rattle.bts_region.specs.Keeps.{IsNextOut, Keeps, out_of, state_of}
 use Rattle.bts_command.specs.Kinds.{key_of}
 use Rattle.bts_region.specs.Regions.{position_of}
@@ -65,23 +66,31 @@ out_begins session count now repo ended (unit.Browse n) key o e h = absurd o
 -- ---- in a region
 
 module _ {N : Type 0} (name : Named) (r : Inside N) (k : Keeps name r) where
-  far_from_last : 500 * r.units ≤ 2 ^ 62
+  pub far_from_last : 512 * r.units ≤ 2 ^ 62
   far_from_last =
-      let a = k.few_units in let b = k.few_items in let c = k.activations in let d = k.limited in let e = k.small.units in omega (arith, a, b, c, d, e)
+      let a = k.few_units in
+      let b = k.few_items in
+      let c = k.activations in
+      let d = k.limited in
+      let e = k.small.units in
+      let few = k.may_open.few in
+      let none = nothing_owed name.opening.repo.processes k.may_open.sound k.may_open.lone in omega (arith, a, b, c, d, e, few, none)
 
   pub runnable : (u : UnitKind) (key : Key) → may_begin u (process_at key r.repository.processes) ≡ true → IsRunnable u (process_at key r.repository.processes) (texts_of r.session.value u)
   runnable u key begins = record {
     sound = sound_at key r.repository.processes k.sound;
     begins = begins;
-    bounded = within_more (500 * r.units) (2 ^ 62) (process_at key r.repository.processes) (within_at (500 * r.units) key r.repository.processes k.within) far_from_last;
+    bounded =
+        let far = far_from_last in
+        within_more r.units (512 * r.units) (2 ^ 62) (2 ^ 62) (process_at key r.repository.processes) (within_at r.units (512 * r.units) key r.repository.processes k.within) (omega (arith, far)) far;
     texts = texts_executable r.session.value u k.today;
   }
 
   -- ---- the unit that is out
 
-  pub out_enabled : (u : UnitKind) → r.out ≡ Some u → is_enabled r.session.value r.moment (position_of (state_of r)).processes (position_of (state_of r)).ended u ≡ true
+  pub out_enabled : (u : UnitKind) → r.out ≡ Some u → is_enabled r.session.value r.moment (position_of (state_of name r)).processes (position_of (state_of name r)).ended u ≡ true
   out_enabled u o =
-      let Enabled : Option UnitKind → Type 0 = λ x. AllByRecursion (λ v. is_enabled r.session.value r.moment (position_of (state_of r)).processes (position_of (state_of r)).ended v ≡ true) (map (λ (z : Out). z.1) (out_of x)) in
+      let Enabled : Option UnitKind → Type 0 = λ x. AllByRecursion (λ v. is_enabled r.session.value r.moment (position_of (state_of name r)).processes (position_of (state_of name r)).ended v ≡ true) (map (λ (z : Out). z.1) (out_of x)) in
       (subst Enabled o k.kept.enabled).0
 
   pub out_next : (u : UnitKind) → r.out ≡ Some u → IsNextOut r.session.value r.items_ended (Some u)
@@ -91,4 +100,4 @@ module _ {N : Type 0} (name : Named) (r : Inside N) (k : Keeps name r) where
   out_runnable u key o h =
       runnable u key
       (subst (λ repo. may_begin u (process_at key repo) ≡ true) (sym k.processes)
-      (out_begins r.session.value r.items_ended r.moment (position_of (state_of r)).processes (position_of (state_of r)).ended u key (out_next u o) (out_enabled u o) h))
+      (out_begins r.session.value r.items_ended r.moment (position_of (state_of name r)).processes (position_of (state_of name r)).ended u key (out_next u o) (out_enabled u o) h))

@@ -23,13 +23,13 @@ not_not {b} h = by b h
 -- ---- what stands under a key
 
 pub fits_so : (j : jobs.Job) (u : UnitKind) (key : Key) (repo : Processes) (moment : ℕ) (r : Bool) → j.moment ≡ moment → j.unit ≡ u → j.base.key ≡ key
-    → IsTrue r ↔ (process_at j.base.key repo ≡ j.base) → IsTrue r ↔ IsOfDue j u (process_at key repo) moment
+    → IsTrue r ↔ (process_at j.base.key repo ≡ j.base) → IsTrue r ↔ IsOfDue j (record { unit = u; base = process_at key repo; moment = moment })
 fits_so j u key repo moment r m n k same = (
   λ h. record { unit = n; from = sym (same.0 h) ∙ ap (λ z. process_at z repo) k; at = m },
   λ h. same.1 (ap (λ z. process_at z repo) k ∙ sym h.from),
 )
 
-pub fits_not : (j : jobs.Job) (u : UnitKind) (key : Key) (repo : Processes) (moment : ℕ) → (j.base.key ≡ key → ⊥) → IsTrue false ↔ IsOfDue j u (process_at key repo) moment
+pub fits_not : (j : jobs.Job) (u : UnitKind) (key : Key) (repo : Processes) (moment : ℕ) → (j.base.key ≡ key → ⊥) → IsTrue false ↔ IsOfDue j (record { unit = u; base = process_at key repo; moment = moment })
 fits_not j u key repo moment other = (λ h. cc, λ h. absurd (other (ap (λ s. s.key) h.from ∙ key_there key repo)))
 
 -- ---- units

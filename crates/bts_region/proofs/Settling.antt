@@ -1,5 +1,5 @@
 -- The item on offer that holds no process ends at once.
-use Rattle.std.proofs.Common.{◌≡◌, ◌*◌, ℕ, ◌+◌, true, ◌&&◌, max, nat_eq, [], ◌∷◌, ◌++◌, Option, None, Some, refl, sym, ap, ◌∙◌, subst, arith}
+use Rattle.std.proofs.Common.{◌≡◌, ℕ, ◌+◌, true, ◌&&◌, max, nat_eq, [], ◌∷◌, ◌++◌, Option, None, Some, refl, sym, ap, ◌∙◌, subst, arith}
 use Rattle.std.specs.List.{list_all, slice_get}
 use Rattle.std.proofs.lemmas.Bool.{and_from, eq-eqb}
 use Rattle.bts_command.specs.declared.ended.End.TheVariants.{Commit}
@@ -12,9 +12,10 @@ use Rattle.bts_region.specs.Answers.{ended_at_once, with_ended, with_moment}
 use Rattle.bts_region.specs.Enabled.{is_item_enabled, is_settled}
 use Rattle.bts_region.specs.Histories.{IsNext}
 use Rattle.bts_region.specs.Items.{clock_in, is_for, rows_in}
+use Rattle.bts_region.specs.Awake.{AreAwake}
 use Rattle.bts_region.specs.Keeps.{Keeps, out_of, state_of}
 use Rattle.bts_command.specs.Kinds.{key_of}
-use Rattle.bts_region.specs.Positions.{Position, behind_all, origin}
+use Rattle.bts_region.specs.Positions.{Position, behind_all, opened_at}
 use Rattle.bts_region.specs.Regions.{offer, position_of, work}
 use Rattle.bts_region.specs.declared.region.Region.TheInside.{Inside}
 use Rattle.bts_region.proofs.Entering.{Enters, is_entered}
@@ -23,9 +24,9 @@ use Rattle.bts_region.proofs.NextWork.{IsNextWork}
 use Rattle.bts_region.proofs.Numbered.{any_where, item_there, numbered_at, place_below}
 use Rattle.bts_region.proofs.Works.{settled_where, turn_is_next}
 use Rattle.bts_session.specs.declared.session.Item.TheVariants as item
-use Rattle.bts_tree.specs.Repositories.{ready_in}
-use Rattle.bts_tree.specs.Soundness.{AreSound}
-use Rattle.bts_rows.specs.Bounds.{is_lone, is_within}
+use Rattle.bts_tree.specs.Repositories.{Stored, ready_in}
+use Rattle.bts_tree.specs.Soundness.{AreSound, bound_of_units}
+use Rattle.bts_rows.specs.Bounds.{is_lone}
 
 none_out : (o : Option UnitKind) → out_of o ≡ [] → o ≡ None
 none_out None e = refl
@@ -38,7 +39,7 @@ pub record IsItemPut {N : Type 0} (r s : Inside N) (e : Ended) : Type 0 where
   pub moment : s.moment ≡ r.moment
   pub history : s.history.items ≡ r.history.items ++ e ∷ []
   pub gone : s.out ≡ None
-  pub processes : s.repository.processes ≡ r.repository.processes
+  pub repository : s.repository ≡ r.repository
   pub units : s.units ≡ r.units
   pub items : s.items_ended ≡ r.items_ended + 1
   pub activations : s.activations ≡ r.activations
@@ -51,7 +52,7 @@ module _ {N : Type 0} (name : Named) (r : Inside N) (k : Keeps name r) where
   n = r.items_ended + 1
 
   abbrev at : Position
-  at = position_of (state_of r)
+  at = position_of (state_of name r)
 
   -- a SETTLE is next, and nothing else is left to do
   record IsSettle (u : UnitKind) : Type 0 where
@@ -75,7 +76,7 @@ module _ {N : Type 0} (name : Named) (r : Inside N) (k : Keeps name r) where
     settled : is_settled at.moment at.processes ≡ true
     settled = let q = is_quiet name r k in settled_where at q.untold q.due none
 
-    settle_next : IsNext r.session.value (behind_all origin r.history.items) (ended_item (unit.Settle n) r.moment)
+    settle_next : IsNext r.session.value (behind_all (opened_at name.opening) r.history.items) (ended_item (unit.Settle n) r.moment)
     settle_next = record {
       enabled =
           any_where (λ (x : Numbered). nat_eq x.0 n && is_item_enabled r.session.value r.moment at.processes at.ended x) (numbered r.session.value) r.items_ended (n, item.Settle)
@@ -90,10 +91,11 @@ module _ {N : Type 0} (name : Named) (r : Inside N) (k : Keeps name r) where
       rows = sym (ap (λ o. rows_in o at.processes) own_item);
     }
 
-    settle_enters : (s : Inside N) → IsItemPut r s (ended_item (unit.Settle n) r.moment) → Enters r s (ended_item (unit.Settle n) r.moment)
+    settle_enters : (s : Inside N) → IsItemPut r s (ended_item (unit.Settle n) r.moment) → Enters name r s (ended_item (unit.Settle n) r.moment)
     settle_enters s p = record {
       next = settle_next;
       now = refl;
+      counted = refl;
       item = refl;
       few_items = let b = place_below r.session.value.items r.items_ended item.Settle there in let i = p.items in omega (arith, b, i);
       limited = let l = k.limited in omega (arith, l);
@@ -102,16 +104,17 @@ module _ {N : Type 0} (name : Named) (r : Inside N) (k : Keeps name r) where
       moment = p.moment;
       history = p.history;
       out = p.gone;
-      processes = p.processes;
+      processes = ap (λ (x : Stored). x.processes) p.repository;
       units = p.units;
       items = p.items;
       activations = p.activations;
-      sound = subst AreSound (sym p.processes) k.sound;
-      within = subst (λ m. list_all (is_within (500 * m)) s.repository.processes ≡ true) (sym p.units) (subst (λ repo. list_all (is_within (500 * r.units)) repo ≡ true) (sym p.processes) k.within);
-      lone = subst (λ repo. list_all is_lone repo ≡ true) (sym p.processes) k.lone;
+      sound = subst (λ x. AreSound x.processes) (sym p.repository) k.sound;
+      within = subst (λ m. bound_of_units m s.repository.processes ≡ true) (sym p.units) (subst (λ x. bound_of_units r.units x.processes ≡ true) (sym p.repository) k.within);
+      lone = subst (λ x. list_all is_lone x.processes ≡ true) (sym p.repository) k.lone;
+      awake = subst AreAwake (sym p.repository) k.awake;
     }
 
-  module _ (u : UnitKind) (offered : offer (state_of r) ≡ work u) (alone : (state_of r).out ≡ []) (plain : key_of u ≡ None) where
+  module _ (u : UnitKind) (offered : offer (state_of name r) ≡ work u) (alone : (state_of name r).out ≡ []) (plain : key_of u ≡ None) where
     one_settle : IsSettle u
     one_settle = settle_by u plain (offers_next name r k alone u offered)
 
@@ -119,10 +122,10 @@ module _ {N : Type 0} (name : Named) (r : Inside N) (k : Keeps name r) where
     not_out = none_out r.out alone
 
     -- where it was put behind the history
-    pub item_enters : (s : Inside N) → IsItemPut r s (ended_item u r.moment) → Enters r s (ended_item u r.moment)
+    pub item_enters : (s : Inside N) → IsItemPut r s (ended_item u r.moment) → Enters name r s (ended_item u r.moment)
     item_enters s p =
         let i = one_settle in
-        subst (λ v. Enters r s (ended_item v r.moment)) (sym i.number)
+        subst (λ v. Enters name r s (ended_item v r.moment)) (sym i.number)
         (settle_enters i.there i.none s (subst (λ v. IsItemPut r s (ended_item v r.moment)) i.number p))
 
     no_clock : clock_in (item_done r.session.value u) ≡ 0
@@ -137,14 +140,14 @@ module _ {N : Type 0} (name : Named) (r : Inside N) (k : Keeps name r) where
     now_stays : (c : ℕ) → c ≡ 0 → r.moment ≡ max r.moment (max r.moment c)
     now_stays c e = omega (arith, e)
 
-    pub item_told : (s : Inside N) → IsItemPut r s (ended_item u r.moment) → state_of s ≡ with_moment (ended_at_once u (state_of r)).moment (with_ended (ended_at_once u (state_of r)) (state_of r))
+    pub item_told : (s : Inside N) → IsItemPut r s (ended_item u r.moment) → state_of name s ≡ with_moment (ended_at_once u (state_of name r)).moment (with_ended (ended_at_once u (state_of name r)) (state_of name r))
     item_told s p =
         let c : ℕ = clock_in (item_done r.session.value u) in
         sym (is_entered name r s k (ended_item u r.moment) (item_enters s p))
         ∙ (λ i. record {
           session = r.session.value;
           limit = r.limit;
-          opening = origin;
+          opening = opened_at name.opening;
           moment = now_stays c no_clock i;
           history = r.history.items ++ record { unit = u; moment = now_is c no_clock i; end = Commit; calls = []; rows = no_rows i; seq = 0 } ∷ [];
           out = sym alone i;

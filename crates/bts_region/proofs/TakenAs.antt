@@ -4,7 +4,6 @@ use Rattle.std.specs.List.{cons_option, enumerate_from, find, fold}
 use Rattle.std.specs.Option.{option_map}
 use Rattle.std.proofs.Math.Nat.{add-zero}
 use Rattle.bts_names.specs.declared.key.Key.{Key}
-use Rattle.bts_names.specs.declared.memory.NoMemory.{NoMemory}
 use Rattle.bts_command.specs.declared.ended.Ended.{Ended}
 use Rattle.bts_command.specs.declared.ended.UnitKind.{UnitKind}
 use Rattle.bts_command.specs.declared.ended.UnitKind.TheVariants as unit
@@ -12,14 +11,16 @@ use Rattle.bts_interp.specs.Items.{Numbered, item_done, item_in, item_of}
 use Rattle.bts_interp.specs.Stations.{Out, PutsNone, PutsOne, has_ticket}
 use Rattle.bts_interp.specs.Jobs as jobs
 use Rattle.bts_interp.specs.Stations as station
+use Rattle.bts_interp.specs.declared.station.Refused.{Refused}
 use Rattle.bts_interp.specs.declared.station.Work.{Work}
 use Rattle.bts_interp.specs.declared.station.Work.TheVariants as work
 use Rattle.bts_region.proofs.Appending.{activations_more, behind_more, clocked_more, items_more, least_more, within_more}
 use Rattle.bts_region.proofs.Counts.{one_if}
+use Rattle.bts_region.proofs.EndedAs.{less_is_left, no_more, none_put}
 use Rattle.bts_region.proofs.FewItems.{items_fit}
 use Rattle.bts_region.proofs.Offers.{least_on_offer, not_waiting}
 use Rattle.bts_region.specs.Answers.{Takes, TakesOffer, ended_at_once, offer_alone, with_ended, with_moment, with_out}
-use Rattle.bts_region.specs.AsStation.{IsRegionWithin, rest_of}
+use Rattle.bts_region.specs.AsStation.{IsNothingOwed, IsRegionWithin, left_of, rest_of}
 use Rattle.bts_region.specs.Enabled.{least}
 use Rattle.bts_region.specs.Histories.{IsLegal, last_clock}
 use Rattle.bts_region.specs.Items.{clock_in, items_of}
@@ -81,7 +82,7 @@ clock_within session (Some n) = clock_below (λ x. nat_eq x.0 n) 1 0 session.ite
 
 -- ---- a region where an item was ended
 
-module _ (old new : RegionState) (u : UnitKind) (keyless : key_of u ≡ None) (kept : IsKept new) where
+module _ (old new : RegionState) (u : UnitKind) (keyless : key_of u ≡ None) (kept : IsKept new) (none : IsNothingOwed new) where
   abbrev e : Ended
   e = ended_at_once u old
 
@@ -100,12 +101,15 @@ module _ (old new : RegionState) (u : UnitKind) (keyless : key_of u ≡ None) (k
     legal : IsLegal old.session old.opening (old.history ++ e ∷ [])
     legal = subst (λ (s : RegionState). IsLegal s.session s.opening s.history) is kept.legal
 
-    rest_falls : rest_of new < rest_of old
-    rest_falls =
-        let same = ap rest_of is in
+    fewer_left : left_of new < left_of old
+    fewer_left =
+        let same = ap left_of is in
         let fits = items_fit old.session old.opening (old.history ++ e ∷ []) legal in
         let named = one_named in
         let made = none_more in omega (arith, same, fits, named, made)
+
+    rest_falls : rest_of new < rest_of old
+    rest_falls = less_is_left (left_of old) (left_of new) _ _ fewer_left none
 
     ended_within : (b : ℕ) → IsRegionWithin b old → IsRegionWithin b new
     ended_within b w =
@@ -135,16 +139,13 @@ module _ (old new : RegionState) (u : UnitKind) (keyless : key_of u ≡ None) (k
 
 -- ---- what is taken
 
-puts_none : (old new : RegionState) → new ≡ old → PutsNone old.history new.history (rest_of old) (rest_of new)
-puts_none old new same = record { same = ap (λ s. s.history) same; stays = let r = ap rest_of same in omega (arith, r) }
-
-module _ (old new : RegionState) (kept : IsKept new) where
-  abbrev T : Result (Work jobs.Job) NoMemory → Type 0
+module _ (old new : RegionState) (kept : IsKept new) (none : IsNothingOwed new) where
+  abbrev T : Result (Work jobs.Job) Refused → Type 0
   T r = station.Takes (λ j. j) old.history new.history (rest_of old) (rest_of new) old.out new.out r
 
-  unit_taken : (u : UnitKind) → old.out ≡ [] → (key : Option Key) → key_of u ≡ key → (r : Result (Work jobs.Job) NoMemory) → Takes old new u key r → T r
+  unit_taken : (u : UnitKind) → old.out ≡ [] → (key : Option Key) → key_of u ≡ key → (r : Result (Work jobs.Job) Refused) → Takes old new u key r → T r
   unit_taken u alone (Some key) k (Ok (work.Job j)) h = (
-    record { same = ap (λ s. s.history) h.1; stays = let r = ap rest_of h.1 in omega (arith, r) },
+    record { same = ap (λ s. s.history) h.1; stays = no_more (rest_of old) (rest_of new) (ap rest_of h.1) },
     ap (has_ticket j.ticket) alone,
     ap (λ s. s.out) h.1 ∙ ap (λ v. old.out ++ (j.ticket, v) ∷ []) (sym h.0.unit),
   )
@@ -154,28 +155,28 @@ module _ (old new : RegionState) (kept : IsKept new) where
   unit_taken u alone (Some key) k (Ok work.Done) h = absurd h
   unit_taken u alone None k (Ok (work.Job j)) h = absurd h
   unit_taken u alone None k (Ok (work.Ended place)) h = (
-    record { one = (ended_at_once u old, ap (λ s. s.history) h.0); falls = rest_falls old new u k kept h.0 },
+    record { one = (ended_at_once u old, ap (λ s. s.history) h.0); falls = rest_falls old new u k kept none h.0 },
     h.1,
     ap (λ s. s.out) h.0,
   )
   unit_taken u alone None k (Ok work.Wait) h = absurd h
   unit_taken u alone None k (Ok (work.Limit n)) h = absurd h
   unit_taken u alone None k (Ok work.Done) h = absurd h
-  unit_taken u alone (Some key) k (Err x) h = (puts_none old new h, ap (λ s. s.out) h)
-  unit_taken u alone None k (Err x) h = (puts_none old new h, ap (λ s. s.out) h)
+  unit_taken u alone (Some key) k (Err x) h = (none_put old new h, ap (λ s. s.out) h)
+  unit_taken u alone None k (Err x) h = (none_put old new h, ap (λ s. s.out) h)
 
-  pub taken : (o : Offer) → offer_alone old old.out ≡ o → (r : Result (Work jobs.Job) NoMemory) → TakesOffer old new o r → T r
+  pub taken : (o : Offer) → offer_alone old old.out ≡ o → (r : Result (Work jobs.Job) Refused) → TakesOffer old new o r → T r
   taken (regions.work u) is r h = unit_taken u (alone_at_work old old.out u is) (key_of u) refl r h
-  taken wait is r h = subst T (sym h.0) (puts_none old new h.1, (λ alone. not_waiting old alone (sym (ap (offer_alone old) alone) ∙ is)), ap (λ s. s.out) h.1)
-  taken (limit_met n) is r h = subst T (sym h.0) (puts_none old new h.1, ap (λ s. s.out) h.1)
-  taken all_done is r h = subst T (sym h.0) (puts_none old new h.1, ap (λ s. s.out) h.1)
+  taken wait is r h = subst T (sym h.0) (none_put old new h.1, (λ alone. not_waiting old alone (sym (ap (offer_alone old) alone) ∙ is)), ap (λ s. s.out) h.1)
+  taken (limit_met n) is r h = subst T (sym h.0) (none_put old new h.1, ap (λ s. s.out) h.1)
+  taken all_done is r h = subst T (sym h.0) (none_put old new h.1, ap (λ s. s.out) h.1)
 
   -- ---- what holds on
 
   module _ (P : RegionState → Type 0) (p : P old)
       (gone : (u : UnitKind) (ticket : ℕ) → offer_alone old old.out ≡ regions.work u → new ≡ with_out (old.out ++ (ticket, u) ∷ []) old → P new)
       (done : (u : UnitKind) → offer_alone old old.out ≡ regions.work u → key_of u ≡ None → new ≡ with_moment (ended_at_once u old).moment (with_ended (ended_at_once u old) old) → P new) where
-    unit_holds : (u : UnitKind) → offer_alone old old.out ≡ regions.work u → (key : Option Key) → key_of u ≡ key → (r : Result (Work jobs.Job) NoMemory) → Takes old new u key r → P new
+    unit_holds : (u : UnitKind) → offer_alone old old.out ≡ regions.work u → (key : Option Key) → key_of u ≡ key → (r : Result (Work jobs.Job) Refused) → Takes old new u key r → P new
     unit_holds u is (Some key) k (Ok (work.Job j)) h = gone u j.ticket is h.1
     unit_holds u is (Some key) k (Ok (work.Ended place)) h = absurd h
     unit_holds u is (Some key) k (Ok work.Wait) h = absurd h
@@ -189,17 +190,17 @@ module _ (old new : RegionState) (kept : IsKept new) where
     unit_holds u is (Some key) k (Err x) h = subst P (sym h) p
     unit_holds u is None k (Err x) h = subst P (sym h) p
 
-    holds_on : (o : Offer) → offer_alone old old.out ≡ o → (r : Result (Work jobs.Job) NoMemory) → TakesOffer old new o r → P new
+    holds_on : (o : Offer) → offer_alone old old.out ≡ o → (r : Result (Work jobs.Job) Refused) → TakesOffer old new o r → P new
     holds_on (regions.work u) is r h = unit_holds u is (key_of u) refl r h
     holds_on wait is r h = subst P (sym h.1) p
     holds_on (limit_met n) is r h = subst P (sym h.1) p
     holds_on all_done is r h = subst P (sym h.1) p
 
-  pub taken_within : (r : Result (Work jobs.Job) NoMemory) → TakesOffer old new (offer_alone old old.out) r → (b : ℕ) → IsRegionWithin b old → IsRegionWithin b new
+  pub taken_within : (r : Result (Work jobs.Job) Refused) → TakesOffer old new (offer_alone old old.out) r → (b : ℕ) → IsRegionWithin b old → IsRegionWithin b new
   taken_within r h b w =
-      holds_on (IsRegionWithin b) w (λ u t is same. subst (IsRegionWithin b) (sym same) w) (λ u is keyless same. ended_within old new u keyless kept same b w) (offer_alone old old.out) refl r h
+      holds_on (IsRegionWithin b) w (λ u t is same. subst (IsRegionWithin b) (sym same) w) (λ u is keyless same. ended_within old new u keyless kept none same b w) (offer_alone old old.out) refl r h
 
-  pub taken_in_order : (r : Result (Work jobs.Job) NoMemory) → TakesOffer old new (offer_alone old old.out) r → old.out ≡ [] → IsRegionInOrder old → IsRegionInOrder new
+  pub taken_in_order : (r : Result (Work jobs.Job) Refused) → TakesOffer old new (offer_alone old old.out) r → old.out ≡ [] → IsRegionInOrder old → IsRegionInOrder new
   taken_in_order r h alone o =
       holds_on IsRegionInOrder o
       (λ u t is same.
@@ -210,4 +211,4 @@ module _ (old new : RegionState) (kept : IsKept new) where
         out = subst (λ (out : List Out). IsLeastOut s (map (λ x. x.1) (out ++ (t, u) ∷ []))) (sym alone) (refl, least_on_offer old alone u (sym (ap (offer_alone old) alone) ∙ is));
       } in
       subst IsRegionInOrder (sym same) all)
-      (λ u is keyless same. ended_in_order old new u keyless kept same alone (least_on_offer old alone u (sym (ap (offer_alone old) alone) ∙ is)) o) (offer_alone old old.out) refl r h
+      (λ u is keyless same. ended_in_order old new u keyless kept none same alone (least_on_offer old alone u (sym (ap (offer_alone old) alone) ∙ is)) o) (offer_alone old old.out) refl r h

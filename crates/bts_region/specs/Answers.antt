@@ -3,33 +3,42 @@ use Rattle.std.specs.Prelude.{◌≡◌, ℕ, ◌+◌, true, false, nat_eq, max,
 use Rattle.std.specs.List.{find}
 use Rattle.std.specs.Option.{option_map}
 use Rattle.bts_names.specs.declared.key.Key.{Key}
-use Rattle.bts_names.specs.declared.memory.NoMemory.{NoMemory}
 use Rattle.bts_command.specs.declared.ended.End.TheVariants.{Commit}
 use Rattle.bts_command.specs.declared.ended.Ended.{Ended}
 use Rattle.bts_command.specs.declared.ended.UnitKind.{UnitKind}
 use Rattle.bts_interp.specs.Items.{item_done, texts_of}
 use Rattle.bts_interp.specs.Jobs as jobs
+use Rattle.bts_interp.specs.Names.{Named}
 use Rattle.bts_interp.specs.Stations.{Out, has_ticket, without}
 use Rattle.bts_interp.specs.declared.station.FinishError.{FinishError}
 use Rattle.bts_interp.specs.declared.station.FinishError.TheVariants as failure
+use Rattle.bts_interp.specs.declared.station.Refused.{Refused}
 use Rattle.bts_interp.specs.declared.station.Work.{Work}
 use Rattle.bts_interp.specs.declared.station.Work.TheVariants as work
 use Rattle.bts_region.specs.Fitting.{job_of}
+use Rattle.bts_region.specs.declared.finishing.Due.{Due}
 use Rattle.bts_region.specs.Histories.{IsNext}
 use Rattle.bts_region.specs.Items.{clock_in, rows_in}
 use Rattle.bts_command.specs.Kinds.{key_of}
-use Rattle.bts_region.specs.Positions.{behind_all, origin}
+use Rattle.bts_region.specs.Positions.{behind_all, opened_at}
 use Rattle.bts_region.specs.Regions.{IsNextTicket, Offer, RegionState, all_done, limit_met, offer, position_of, wait}
 use Rattle.bts_region.specs.Regions as regions
-use Rattle.bts_session.specs.declared.session.Session.{Session}
 use Rattle.bts_tree.specs.Processes.{Process}
 use Rattle.bts_tree.specs.Repositories.{process_at}
 
 -- ---- the beginning
 
--- nothing has ended and nothing is out, behind the empty repository
-abbrev pub begun : Session → ℕ → RegionState
-begun session limit = record { session = session; limit = limit; opening = origin; moment = 0; history = []; out = [] }
+-- nothing has ended and nothing is out
+abbrev pub begun : Named → RegionState
+begun name =
+    record {
+      session = name.session;
+      limit = name.limit;
+      opening = opened_at name.opening;
+      moment = name.opening.moment;
+      history = [];
+      out = [];
+    }
 
 -- ---- what a call makes of a region
 
@@ -70,14 +79,14 @@ pub record IsJobFor (r : RegionState) (u : UnitKind) (key : Key) (j : jobs.Job) 
   pub texts : j.texts ≡ texts_of r.session u
 
 -- a unit that holds a process goes out, and one that holds none is ended; or there is no memory
-abbrev pub Takes : RegionState → RegionState → UnitKind → Option Key → Result (Work jobs.Job) NoMemory → Type 0
+abbrev pub Takes : RegionState → RegionState → UnitKind → Option Key → Result (Work jobs.Job) Refused → Type 0
 Takes old new u (Some key) (Ok (work.Job j)) = IsJobFor old u key j × (new ≡ with_out (old.out ++ (j.ticket, u) ∷ []) old)
 Takes old new u None (Ok (work.Ended place)) = (new ≡ with_moment (ended_at_once u old).moment (with_ended (ended_at_once u old) old)) × (place ≡ length new.history)
 Takes old new u key (Err x) = new ≡ old
 Takes old new u key _ = ⊥
 
 -- what is on offer is done
-abbrev pub TakesOffer : RegionState → RegionState → Offer → Result (Work jobs.Job) NoMemory → Type 0
+abbrev pub TakesOffer : RegionState → RegionState → Offer → Result (Work jobs.Job) Refused → Type 0
 TakesOffer old new (regions.work u) r = Takes old new u (key_of u) r
 TakesOffer old new wait r = (r ≡ Ok work.Wait) × (new ≡ old)
 TakesOffer old new (limit_met count) r = (r ≡ Ok (work.Limit count)) × (new ≡ old)
@@ -98,6 +107,12 @@ Ends old new d place =
     × (e.moment ≡ old.moment)
     × (unit_out d.job.ticket old.out ≡ Some e.unit)
     × (place ≡ length new.history)
+
+-- the unit that is out under a ticket, with its key and the region's moment
+pub record IsDueUnder (ticket : ℕ) (r : RegionState) (d : Due) : Type 0 where
+  pub out : unit_out ticket r.out ≡ Some d.unit
+  pub process : key_of d.unit ≡ Some d.key
+  pub moment : d.moment ≡ r.moment
 
 -- a ticket isn't ended exactly where it isn't out, but for want of memory
 abbrev pub Refuses : RegionState → jobs.Done → FinishError → Type 0

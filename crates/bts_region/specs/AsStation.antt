@@ -1,5 +1,5 @@
 -- A region as a station.
-use Rattle.std.specs.Prelude.{◌≡◌, ℕ, ◌+◌, ◌-◌, ◌≤◌, Bool, true, ◌||◌, cond, max, length, is_some}
+use Rattle.std.specs.Prelude.{◌≡◌, ℕ, ◌+◌, ◌-◌, ◌*◌, ◌≤◌, Bool, true, ◌||◌, cond, max, length, is_some}
 use Rattle.bts_command.specs.declared.ended.UnitKind.{UnitKind}
 use Rattle.bts_interp.specs.Items.{item_of}
 use Rattle.bts_interp.specs.Stations as answer
@@ -7,12 +7,22 @@ use Rattle.bts_region.specs.Answers.{offer_alone}
 use Rattle.bts_region.specs.Histories.{IsWithin, last_clock}
 use Rattle.bts_command.specs.Kinds.{is_activation}
 use Rattle.bts_region.specs.Items.{items_of}
+use Rattle.bts_region.specs.Owed.{owed}
+use Rattle.bts_region.specs.Positions.{behind_all}
 use Rattle.bts_region.specs.Regions.{RegionState, all_done, limit_met}
 use Rattle.bts_region.specs.Serial.{activations_in}
 
 -- the items that haven't ended, and the activations that are still allowed
+abbrev pub left_of : RegionState → ℕ
+left_of r = length r.session.items - length (items_of r.history) + (r.limit - activations_in r.history)
+
+-- each of them may bring about fewer notices and expiries than this, beside those that are still to come
 abbrev pub rest_of : RegionState → ℕ
-rest_of r = length r.session.items - length (items_of r.history) + (r.limit - activations_in r.history)
+rest_of r = 2_000 * left_of r + owed (behind_all r.opening r.history).processes
+
+-- no notice and no expiry is to come
+abbrev pub IsNothingOwed : RegionState → Type 0
+IsNothingOwed r = owed (behind_all r.opening r.history).processes ≡ 0
 
 abbrev pub IsDue : RegionState → answer.Answer → Type 0
 IsDue r answer.all_done = offer_alone r r.out ≡ all_done

@@ -6,23 +6,33 @@ use Rattle.bts_command.specs.declared.ended.UnitKind.TheVariants as unit
 use Rattle.bts_interp.specs.Names.{Named}
 use Rattle.bts_interp.specs.Stations.{Out}
 use Rattle.bts_interp.specs.Items.{item_at}
+use Rattle.bts_region.specs.Awake.{AreAwake}
 use Rattle.bts_region.specs.Items.{has_ended, is_for}
-use Rattle.bts_region.specs.Positions.{origin}
+use Rattle.bts_region.specs.Owed.{owed}
+use Rattle.bts_region.specs.Positions.{opened_at}
 use Rattle.bts_region.specs.Regions.{IsKept, RegionState, activations_of, position_of}
 use Rattle.bts_region.specs.Serial.{activations_in}
-use Rattle.bts_region.specs.Today.{IsOfToday, IsSmall}
+use Rattle.bts_region.specs.Today.{IsOfToday, IsSmall, MayOpen}
 use Rattle.bts_region.specs.declared.region.Region.TheInside.{Inside}
-use Rattle.bts_rows.specs.Bounds.{is_lone, is_within}
+use Rattle.bts_rows.specs.Bounds.{is_lone}
 use Rattle.bts_session.specs.declared.session.Session.{Session}
-use Rattle.bts_tree.specs.Soundness.{AreSound}
+use Rattle.bts_tree.specs.Soundness.{AreSound, bound_of_units}
 
 -- at most one unit is out, under the first ticket
 abbrev pub out_of : Option UnitKind → List Out
 out_of None = []
 out_of (Some u) = (0, u) ∷ []
 
-abbrev pub state_of : {N : Type 0} → Inside N → RegionState
-state_of r = record { session = r.session.value; limit = r.limit; opening = origin; moment = r.moment; history = r.history.items; out = out_of r.out }
+abbrev pub state_of : {N : Type 0} → Named → Inside N → RegionState
+state_of name r =
+    record {
+      session = r.session.value;
+      limit = r.limit;
+      opening = opened_at name.opening;
+      moment = r.moment;
+      history = r.history.items;
+      out = out_of r.out;
+    }
 
 -- the items that have ended are the first ones, so many
 abbrev pub AreFirst : ℕ → List ℕ → Type 0
@@ -38,19 +48,22 @@ IsNextOut session count (Some u) = ⊥
 pub record Keeps {N : Type 0} (name : Named) (r : Inside N) : Type 0 where
   pub session : r.session.value ≡ name.session
   pub limit : r.limit ≡ name.limit
-  pub kept : IsKept (state_of r)
+  pub kept : IsKept (state_of name r)
   -- what is carried along is what the history gives
-  pub processes : r.repository.processes ≡ (position_of (state_of r)).processes
-  pub units : r.units ≡ (position_of (state_of r)).units
-  pub items : AreFirst r.items_ended (position_of (state_of r)).ended
+  pub processes : r.repository.processes ≡ (position_of (state_of name r)).processes
+  pub units : r.units ≡ (position_of (state_of name r)).units
+  pub items : AreFirst r.items_ended (position_of (state_of name r)).ended
   pub few_items : r.items_ended ≤ length r.session.value.items
   pub activations : r.activations ≡ activations_in r.history.items
-  pub limited : activations_of (state_of r) ≤ r.limit
-  pub few_units : r.units ≤ r.items_ended + r.activations
+  pub limited : activations_of (state_of name r) ≤ r.limit
+  pub few_units : r.units + owed r.repository.processes
+      ≤ name.opening.units + owed name.opening.repo.processes + 2_000 * (r.items_ended + r.activations)
   pub next_out : IsNextOut r.session.value r.items_ended r.out
   -- the processes can be worked on
   pub sound : AreSound r.repository.processes
-  pub within : list_all (is_within (500 * r.units)) r.repository.processes ≡ true
+  pub within : bound_of_units r.units r.repository.processes ≡ true
   pub lone : list_all is_lone r.repository.processes ≡ true
+  pub awake : AreAwake r.repository
   pub today : IsOfToday r.session.value
+  pub may_open : MayOpen name.opening
   pub small : IsSmall r.session.value r.limit

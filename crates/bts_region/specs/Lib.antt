@@ -1,5 +1,6 @@
 pub mod Items
 pub mod Positions
+pub mod Owed
 pub mod Enabled
 pub mod Histories
 pub mod Serial
@@ -8,6 +9,7 @@ pub mod Today
 pub mod Answers
 pub mod Offered
 pub mod Fitting
+pub mod Awake
 pub mod Keeps
 pub mod AsStation
 pub mod Widens

@@ -15,10 +15,11 @@ pub record Position : Type 0 where
   pub ended : List ℕ
   pub units : ℕ
 
--- where a file opens, and where there is none
+-- where a history goes on from what was opened
 abbrev pub opened_at : Opening → Position
 opened_at o = record { processes = o.repo.processes; moment = o.moment; ended = []; units = o.units }
 
+-- where it begins with nothing
 abbrev pub origin : Position
 origin = record { processes = []; moment = 0; ended = []; units = 0 }
 

@@ -1,19 +1,18 @@
 // Units that end.
-ghost use Rattle.std.specs.Prelude.{◌≡◌, ◌≤◌, ◌<◌, ◌+◌, ◌^◌, ◌↔◌, cond, not, vec_len, vec_capacity, IfOk, IfErr, OnOk, Ok, Some, IsTrue, true};
-ghost use Rattle.bts_interp.specs.Items.{texts_of};
+ghost use Rattle.std.specs.Prelude.{◌≡◌, ◌≤◌, ◌<◌, ◌+◌, ◌^◌, ◌↔◌, cond, not, vec_len, vec_capacity, IfOk, IfErr, OnOk, OnErr, MatchOption, Ok, Some, IsTrue, true, false};
 ghost use Rattle.bts_interp.specs.Jobs.{executed};
-ghost use Rattle.bts_interp.specs.Ready.{IsRunnable};
-ghost use Rattle.bts_region.specs.Answers.{CountsLast, Ends, Fits, Refuses};
-ghost use Rattle.bts_region.specs.Fitting.{IsOfDue, job_of};
-ghost use Rattle.bts_command.specs.Kinds as kinds;
-ghost use Rattle.bts_tree.specs.Repositories.{has_room, process_at};
+ghost use Rattle.bts_interp.specs.Stations.{has_ticket};
+ghost use Rattle.bts_region.specs.Answers.{CountsLast, Ends, Fits, IsDueUnder, Refuses};
+ghost use Rattle.bts_region.specs.Awake.{AreAwake, AreOthersAwake};
+ghost use Rattle.bts_region.specs.Fitting.{IsOfDue, IsRunnableHere, due_here, job_here};
+ghost use Rattle.bts_tree.specs.Repositories.{has_room};
 ghost use Rattle.bts_unit.specs.Playing as playing;
 
 use crate::region::Region;
 use crate::taking::new_job;
 use bts_command::{End, Ended, UnitKind};
 use bts_index::IndexedRepository;
-use bts_interp::{Done, FinishError, Naming, Steps, run_job};
+use bts_interp::{Done, FinishError, Naming, Steps, item_of, run_job};
 use bts_names::{Key, Moment, NoMemory, Rows};
 use bts_session::Session;
 use bts_tree::Scope;
@@ -45,6 +44,8 @@ fn reserve_for_one(
     ensures processes { repository.new.processes ≡ repository.old.processes }
     ensures place { OnOk result (vec_len history.new < vec_capacity history.new) }
     ensures room { OnOk result (has_room key.now repository.new ≡ true) }
+    ensures others { AreAwake repository.old → OnOk result (AreOthersAwake key.now repository.new) }
+    ensures err { OnErr result (repository.new ≡ repository.old) }
 {
     if history.reserve(1).is_err() {
         return Err(NoMemory);
@@ -54,7 +55,7 @@ fn reserve_for_one(
 
 /// Whether a result is that of the unit from the process and at the moment that stand now.
 fn fits<N: Naming>(done: &Done<N>, due: &Due, repository: &IndexedRepository) -> bool
-    ensures { IsTrue result ↔ IsOfDue done.now.job due.now.unit (process_at due.now.key repository.now.processes) due.now.moment }
+    ensures { IsTrue result ↔ IsOfDue done.now.job (due_here due.now repository.now.processes) }
 {
     if done.moment() != due.moment {
         return false;
@@ -78,8 +79,9 @@ fn run_again<N: Naming, L: Ledger>(
     steps: &mut Steps<L>,
 ) -> Result<Done<N>, NoMemory>
     requires named { session.now.value ≡ N.name.session }
-    requires runnable { IsRunnable due.now.unit (process_at due.now.key repository.now.processes) (texts_of session.now.value due.now.unit) }
-    ensures ok { IfOk result (λ d. d.job ≡ job_of d.job.ticket session.now.value due.now.unit (process_at due.now.key repository.now.processes) due.now.moment) }
+    requires runnable { IsRunnableHere session.now.value (due_here due.now repository.now.processes) }
+    ensures ok { IfOk result (λ d. d.job
+        ≡ job_here d.job.ticket session.now.value (due_here due.now repository.now.processes)) }
     ensures counted { IfOk result (λ d. steps.new ≡ steps.old + executed d) }
     ensures later { steps.old ≤ steps.new }
 {
@@ -100,11 +102,14 @@ fn fitting<N: Naming, L: Ledger>(
     steps: &mut Steps<L>,
 ) -> Result<Done<N>, Done<N>>
     requires named { session.now.value ≡ N.name.session }
-    requires runnable { IsRunnable due.now.unit (process_at due.now.key repository.now.processes) (texts_of session.now.value due.now.unit) }
-    ensures ok { IfOk result (λ d. d.job ≡ job_of d.job.ticket session.now.value due.now.unit (process_at due.now.key repository.now.processes) due.now.moment) }
+    requires runnable { IsRunnableHere session.now.value (due_here due.now repository.now.processes) }
+    ensures ok { IfOk result (λ d. d.job
+        ≡ job_here d.job.ticket session.now.value (due_here due.now repository.now.processes)) }
     ensures err { IfErr result (λ d. d ≡ done) }
-    ensures taken { IsOfDue done.job due.now.unit (process_at due.now.key repository.now.processes) due.now.moment → (result ≡ Ok done) × (steps.new ≡ steps.old) }
-    ensures again { (IsOfDue done.job due.now.unit (process_at due.now.key repository.now.processes) due.now.moment → ⊥) → IfOk result (λ d. steps.new ≡ steps.old + executed d) }
+    ensures taken { IsOfDue done.job (due_here due.now repository.now.processes)
+        → (result ≡ Ok done) × (steps.new ≡ steps.old) }
+    ensures again { (IsOfDue done.job (due_here due.now repository.now.processes) → ⊥)
+        → IfOk result (λ d. steps.new ≡ steps.old + executed d) }
     ensures later { steps.old ≤ steps.new }
 {
     if fits(&done, due, repository) {
@@ -117,10 +122,53 @@ fn fitting<N: Naming, L: Ledger>(
     }
 }
 
-/// Puts the process that a unit leaves into the repository, but for a rollback.
+/// Makes room for the end of a unit, and gives the result that fits. Where there is no memory the result comes back, and
+/// the index keeps no key for it.
+fn prepare<N: Naming, L: Ledger>(
+    alloc: Global,
+    done: Done<N>,
+    due: &Due,
+    history: &mut Vec<Ended>,
+    repository: &mut IndexedRepository,
+    session: &Arc<Session>,
+    steps: &mut Steps<L>,
+) -> Result<Done<N>, Done<N>>
+    requires named { session.now.value ≡ N.name.session }
+    requires runnable { IsRunnableHere session.now.value (due_here due.now repository.old.processes) }
+    ensures ok { IfOk result (λ d. d.job
+        ≡ job_here d.job.ticket session.now.value (due_here due.now repository.old.processes)) }
+    ensures err { IfErr result (λ d. d ≡ done) }
+    ensures taken { IsOfDue done.job (due_here due.now repository.old.processes)
+        → steps.new ≡ steps.old }
+    ensures again { (IsOfDue done.job (due_here due.now repository.old.processes) → ⊥)
+        → IfOk result (λ d. steps.new ≡ steps.old + executed d) }
+    ensures later { steps.old ≤ steps.new }
+    ensures history { history.new.items ≡ history.old.items }
+    ensures processes { repository.new.processes ≡ repository.old.processes }
+    ensures place { OnOk result (vec_len history.new < vec_capacity history.new) }
+    ensures room { OnOk result (has_room due.now.key repository.new ≡ true) }
+    ensures others { AreAwake repository.old → OnOk result (AreOthersAwake due.now.key repository.new) }
+    ensures awake { AreAwake repository.old → OnErr result (AreAwake repository.new) }
+{
+    if reserve_for_one(history, repository, &due.key).is_err() {
+        return Err(done);
+    }
+    match fitting(alloc, done, due, repository, session, steps) {
+        Ok(fitted) => Ok(fitted),
+        Err(done) => {
+            repository.forget_idle(&due.key);
+            Err(done)
+        }
+    }
+}
+
+/// Puts the process that a unit leaves into the repository, but for a rollback. The index keeps no key for it where it has
+/// no activation to run.
 fn put_back(repository: &mut IndexedRepository, after: Scope, end: &End)
     requires { has_room after.process.key repository.old ≡ true }
-    ensures { repository.new.processes ≡ playing.put_back end.now (Some after.process) repository.old.processes }
+    ensures processes { repository.new.processes
+        ≡ playing.put_back end.now (Some after.process) repository.old.processes }
+    ensures awake { AreOthersAwake after.process.key repository.old → AreAwake repository.new }
 {
     let key = after.key();
     if !end.is_rollback() {
@@ -137,6 +185,27 @@ fn number_of(units: u64, is_committed: bool) -> u64
 }
 
 impl<N: Naming> Region<N> {
+    /// The unit that is out under a ticket.
+    fn due_of(&self, ticket: u64) -> Option<Due>
+        ensures { MatchOption result
+            (has_ticket ticket self.now.out ≡ false) (λ d. IsDueUnder ticket self.now d) }
+    {
+        let Some(unit) = self.out else {
+            return None;
+        };
+        if ticket != 0 {
+            return None;
+        }
+        let Some(key) = unit.key() else {
+            unreachable!()
+        };
+        Some(Due {
+            unit,
+            key,
+            moment: self.moment,
+        })
+    }
+
     /// Ends the ticket's unit, and answers its place in the history, from 1. A result from the process and the moment
     /// that stand now is taken over, and no statement is executed; else the unit is run again, once. Where there is no memory,
     /// or the ticket isn't out, all is as it was and the result comes back.
@@ -152,28 +221,15 @@ impl<N: Naming> Region<N> {
         ensures later { steps.old ≤ steps.new }
     {
         let ticket = done.ticket();
-        let Some(unit) = self.out else {
+        let Some(due) = self.due_of(ticket) else {
             return Err((FinishError::NotOut { ticket }, done));
         };
-        if ticket != 0 {
-            return Err((FinishError::NotOut { ticket }, done));
-        }
-        let Some(key) = unit.key() else {
-            unreachable!()
-        };
-        let due = Due {
-            unit,
-            key,
-            moment: self.moment,
-        };
-        if reserve_for_one(&mut self.history, &mut self.repository, &due.key).is_err() {
-            return Err((FinishError::NoMemory, done));
-        }
-        let fitted = match fitting(
+        let fitted = match prepare(
             self.alloc,
             done,
             &due,
-            &self.repository,
+            &mut self.history,
+            &mut self.repository,
             &self.session,
             steps,
         ) {
@@ -184,11 +240,10 @@ impl<N: Naming> Region<N> {
         fitted.job().facts();
         let (calls, after, end) = fitted.into_result();
         let is_committed = !end.is_rollback();
-        let is_activation = due.unit.is_activation();
         put_back(&mut self.repository, after, &end);
         self.units += u64::from(is_committed);
-        self.activations += u64::from(is_activation);
-        self.items_ended += usize::from(!is_activation);
+        self.activations += u64::from(due.unit.is_activation());
+        self.items_ended += usize::from(item_of(&due.unit).is_some());
         self.history.push_reserved(Ended {
             unit: due.unit,
             moment: due.moment,

@@ -4,7 +4,8 @@
 //! In `specs/`: `Items` (the items of a session, which units do them, and whose turn it is), `Positions` (where a history
 //! has come to), `Enabled` (the work that may be taken there, in order), `Histories` (legal and clocked histories),
 //! `Serial` (the serial one), `Regions` (what is answered to whoever asks for work), `Answers` (what each call of a region
-//! answers and leaves), `AsStation` (a region as a station), `Today` (the sessions that a region does today) and `Keeps`
+//! answers and leaves), `Owed` (the notices and expiries that are still to come), `AsStation` (a region as a station),
+//! `Today` (the sessions that a region does today, and what it can go on from), `Awake` (what the index keeps) and `Keeps`
 //! (what its fields keep).
 #![tactic(auto)]
 

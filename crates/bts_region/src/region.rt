@@ -3,18 +3,18 @@ ghost use Rattle.std.specs.Prelude.{◌≡◌, ℕ, [], length, MatchResult, IfO
 ghost use Rattle.std.specs.List.{AllByRecursion};
 ghost use Rattle.bts_interp.specs.Stations.{has_ticket, without};
 ghost use Rattle.bts_region.specs.Answers.{begun, with_moment, with_out};
-ghost use Rattle.bts_region.specs.AsStation.{MayEnd};
+ghost use Rattle.bts_region.specs.AsStation.{IsNothingOwed, MayEnd};
 ghost use Rattle.bts_region.specs.Histories.{IsLegal};
-ghost use Rattle.bts_region.specs.Positions.{behind_all, origin};
+ghost use Rattle.bts_region.specs.Positions.{behind_all, opened_at};
 ghost use Rattle.bts_region.specs.Regions.{IsKept, kinds_out};
-ghost use Rattle.bts_region.specs.Today.{IsOfToday, IsSmall};
+ghost use Rattle.bts_region.specs.Today.{IsOfToday, IsSmall, MayOpen};
 
 use bts_command::{Ended, History, UnitKind};
 use bts_index::IndexedRepository;
 use bts_interp::{Job, Naming};
 use bts_names::{Moment, NoMemory};
 use bts_session::Session;
-use bts_tree::Repository;
+use bts_tree::{Opening, Repository};
 use std::alloc::Global;
 use std::marker::{Model, PhantomData};
 use std::sync::Arc;
@@ -22,7 +22,7 @@ use std::sync::Arc;
 /// What a run works on: the session, the units that have ended, those that are out, and all processes. Contracts see
 /// all of it but the processes, which are those that the history leaves. It keeps that the history is legal, that no
 /// item stands twice, and that what is out is enabled and apart from all else that is out. Today it lives in memory,
-/// begins empty, and gives out one unit at a time.
+/// goes on from processes without children and timers, and gives out one unit at a time.
 #[derive(Drop)]
 pub struct Region<N: Naming> {
     pub(crate) alloc: Global,
@@ -48,7 +48,7 @@ impl<N: Naming> Model for Region<N> {
 
     ghost Value = { RegionState };
 
-    ghost view = { λ r. state_of r };
+    ghost view = { λ r. state_of N.name r };
 
     ghost invariant = { λ r. Keeps N.name r };
 }
@@ -61,27 +61,39 @@ pub struct Closed {
 }
 
 impl<N: Naming> Region<N> {
-    /// A region of a session, in which nothing has ended yet, behind the empty repository. At most so many activations
-    /// end in it. The type must name both; there must be so few items and activations that numbers stay far from their
-    /// last ones, and fewer than 2^32 items, so that each has a number.
-    pub fn begin(alloc: Global, session: Session, limit: u64) -> Result<Region<N>, NoMemory>
-        requires name { N.name ≡ record { session = session; limit = limit } }
+    /// A region of a session, in which nothing has ended yet, and which goes on from what was opened. At most so many
+    /// activations end in it. The type must name all three; there must be so few units, items and activations that
+    /// numbers stay far from their last ones, and fewer than 2^32 items, so that each has a number.
+    pub fn begin(
+        alloc: Global,
+        opening: Opening,
+        session: Session,
+        limit: u64,
+    ) -> Result<Region<N>, NoMemory>
+        requires name { N.name ≡ record { session = session; opening = opening; limit = limit } }
+        requires opens { MayOpen opening }
         requires today { IsOfToday session }
         requires small { IsSmall session limit }
-        ensures { IfOk result (λ r. r ≡ begun session limit) }
+        ensures { IfOk result (λ r. r ≡ begun N.name) }
     {
         let Ok(session) = Arc::new(alloc, session) else {
             return Err(NoMemory);
         };
+        let Opening {
+            repo,
+            units,
+            moment,
+        } = opening;
+        let repository = IndexedRepository::of(alloc, repo)?;
         Ok(Region {
             alloc,
             session,
             limit,
-            moment: Moment::first(),
+            moment,
             history: Vec::new(alloc),
             out: None,
-            repository: IndexedRepository::empty(alloc),
-            units: 0,
+            repository,
+            units,
             items_ended: 0,
             activations: 0,
             of: PhantomData,
@@ -122,7 +134,8 @@ impl<N: Naming> Region<N> {
     /// What every region keeps, for the proofs of callers; it does nothing.
     pub fn facts(&self)
         ensures kept { IsKept self.now }
-        ensures opening { self.now.opening ≡ origin }
+        ensures opening { self.now.opening ≡ opened_at N.name.opening }
+        ensures owed { IsNothingOwed self.now }
         ensures session { self.now.session ≡ N.name.session }
         ensures limit { self.now.limit ≡ N.name.limit }
     {
@@ -169,8 +182,9 @@ impl<N: Naming> Region<N> {
     /// The history, and the processes that it left.
     pub fn close(self) -> Closed
         ensures history { result.history ≡ self.history }
-        ensures legal { IsLegal N.name.session origin result.history }
-        ensures processes { result.repository.processes ≡ (behind_all origin result.history).processes }
+        ensures legal { IsLegal N.name.session (opened_at N.name.opening) result.history }
+        ensures processes { result.repository.processes
+            ≡ (behind_all (opened_at N.name.opening) result.history).processes }
     {
         let Region {
             alloc: _,

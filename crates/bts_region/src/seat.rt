@@ -6,8 +6,8 @@ ghost use Rattle.bts_region.specs.AsStation.{IsDue, IsRegionWithin, rest_of};
 ghost use Rattle.bts_region.specs.Regions.{IsRegionInOrder};
 
 use crate::region::Region;
-use bts_interp::{Done, FinishError, Job, Naming, Station, Steps, Work};
-use bts_names::{Moment, NoMemory};
+use bts_interp::{Done, FinishError, Job, Naming, Refused, Station, Steps, Work};
+use bts_names::Moment;
 use std::sync::ledger::Ledger;
 
 impl<N: Naming> Station<Job<N>, Done<N>> for Region<N> {
@@ -31,7 +31,7 @@ impl<N: Naming> Station<Job<N>, Done<N>> for Region<N> {
 
     ghost due = { λ s a. IsDue s a };
 
-    fn take_work(&mut self) -> Result<Work<Job<N>>, NoMemory>
+    fn take_work(&mut self) -> Result<Work<Job<N>>, Refused>
         ensures told { IfSome (answer_of result) (λ a. IsDue self.new a × (self.new ≡ self.old)) }
         ensures exactly { (a : Answer) → IsDue self.old a → (answer_of result ≡ Some a) ⊎ (is_no_memory result ≡ true) }
         ensures takes { Takes (λ j. j) self.old.history self.new.history (rest_of self.old) (rest_of self.new) self.old.out self.new.out result }
@@ -58,7 +58,9 @@ impl<N: Naming> Station<Job<N>, Done<N>> for Region<N> {
         ensures again { (Fits self.old done → ⊥) → IfOk result (λ place. CountsLast self.old self.new steps.old steps.new) }
     {
         self.facts_of_out();
-        Region::finish(self, done, steps)
+        let ended = Region::finish(self, done, steps);
+        self.facts();
+        ended
     }
 
     fn give_back(&mut self, job: Job<N>) -> Result<(), Job<N>>

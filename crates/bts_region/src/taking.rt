@@ -12,7 +12,7 @@ use crate::finding::Found;
 use crate::region::Region;
 use bts_command::{Calls, End, Ended, UnitKind};
 use bts_index::IndexedRepository;
-use bts_interp::{Job, Naming, Work};
+use bts_interp::{Job, Naming, Refused, Work};
 use bts_names::{Key, Moment, NoMemory, Path, Rows};
 use bts_session::Session;
 use std::alloc::Global;
@@ -38,7 +38,7 @@ pub(crate) fn new_job<N: Naming>(
 
 impl<N: Naming> Region<N> {
     /// Gives out the first work in order, with the process that it is about; SETTLE is ended at once.
-    pub fn take_work(&mut self) -> Result<Work<Job<N>>, NoMemory>
+    pub fn take_work(&mut self) -> Result<Work<Job<N>>, Refused>
         ensures { TakesOffer self.old self.new (offer_alone self.old self.old.out) result }
     {
         if self.out.is_some() {
@@ -52,7 +52,7 @@ impl<N: Naming> Region<N> {
     }
 
     /// A unit that holds a process goes out, and one that holds none is ended.
-    fn take(&mut self, unit: &UnitKind) -> Result<Work<Job<N>>, NoMemory>
+    fn take(&mut self, unit: &UnitKind) -> Result<Work<Job<N>>, Refused>
         requires offered { offer self.old ≡ work unit.now }
         requires alone { self.old.out ≡ [] }
         ensures { Takes self.old self.new unit.now (key_of unit.now) result }
@@ -64,33 +64,38 @@ impl<N: Naming> Region<N> {
     }
 
     /// The unit goes out with a copy of the process of its key.
-    fn give_out(&mut self, unit: &UnitKind, key: &Key) -> Result<Work<Job<N>>, NoMemory>
+    fn give_out(&mut self, unit: &UnitKind, key: &Key) -> Result<Work<Job<N>>, Refused>
         requires offered { offer self.old ≡ work unit.now }
         requires alone { self.old.out ≡ [] }
         requires process { key_of unit.now ≡ Some key.now }
         ensures { Takes self.old self.new unit.now (Some key.now) result }
     {
-        let job = new_job(
+        let made = new_job(
             self.alloc,
             unit,
             key,
             self.moment,
             &self.repository,
             &self.session,
-        )?;
-        self.out = Some(*unit);
-        Ok(Work::Job(job))
+        );
+        match made {
+            Ok(job) => {
+                self.out = Some(*unit);
+                Ok(Work::Job(job))
+            }
+            Err(_) => Err(Refused::NoMemory),
+        }
     }
 
     /// Ends an item that holds no process.
-    fn end_item(&mut self, unit: UnitKind) -> Result<Work<Job<N>>, NoMemory>
+    fn end_item(&mut self, unit: UnitKind) -> Result<Work<Job<N>>, Refused>
         requires offered { offer self.old ≡ work unit }
         requires alone { self.old.out ≡ [] }
         requires item { key_of unit ≡ None }
         ensures { Takes self.old self.new unit None result }
     {
         if self.history.reserve(1).is_err() {
-            return Err(NoMemory);
+            return Err(Refused::NoMemory);
         }
         self.items_ended += 1;
         self.history.push_reserved(Ended {

@@ -1,11 +1,12 @@
 // Regions of a small session.
 ghost use Rattle.std.specs.Prelude.{◌≡◌, ◌<◌, IfSome};
-ghost use Rattle.bts_region.specs.Today.{IsOfToday, IsSmall};
+ghost use Rattle.bts_region.specs.Today.{IsOfToday, IsSmall, MayOpen};
 
 use crate::Region;
 use bts_interp::{Done, FinishError, Job, Naming, Steps, Work, run_job};
 use bts_names::{Moment, Value};
 use bts_session::{Session, read_session};
+use bts_tree::{Opening, Repository};
 use std::alloc::Global;
 use std::marker::Brand;
 use std::sync::ledger::{Blank, Ledger};
@@ -202,8 +203,15 @@ fn later<N: Naming, L: Ledger>(
     }
 }
 
-fn tell<N: Naming, L: Ledger>(alloc: Global, session: Session, blank: Blank, story: Story) -> bool
-    requires name { N.name ≡ record { session = session; limit = 4 } }
+fn tell<N: Naming, L: Ledger>(
+    alloc: Global,
+    opening: Opening,
+    session: Session,
+    blank: Blank,
+    story: Story,
+) -> bool
+    requires name { N.name ≡ record { session = session; opening = opening; limit = 4 } }
+    requires opens { MayOpen opening }
     requires today { IsOfToday session }
     requires small { IsSmall session 4 }
     requires ledger { blank.name ≡ L.name }
@@ -212,7 +220,7 @@ fn tell<N: Naming, L: Ledger>(alloc: Global, session: Session, blank: Blank, sto
 {
     let (book, share) = blank.open::<L>();
     let mut steps = Steps::of(book, share);
-    let Ok(mut region) = Region::<N>::begin(alloc, session, 4) else {
+    let Ok(mut region) = Region::<N>::begin(alloc, opening, session, 4) else {
         return false;
     };
     let is_so = match story {
@@ -235,8 +243,13 @@ fn leaves_all<N: Naming>(region: Region<N>) -> bool {
 }
 
 fn holds(alloc: Global, text: &str, story: Story) -> bool {
+    let opening = Opening {
+        repo: Repository::empty(alloc),
+        units: 0,
+        moment: Moment::first(),
+    };
     match session_of(alloc, text) {
-        Some(session) => tell::<Brand, Brand>(alloc, session, Blank::new(1), story),
+        Some(session) => tell::<Brand, Brand>(alloc, opening, session, Blank::new(1), story),
         None => false,
     }
 }

@@ -9,4 +9,4 @@ call-requires-clause-late c = sound_unit_late c.args.unit.now c.requires.sound
 pub call-requires-clause-numbers : goal.call-requires-clause-numbers
 call-requires-clause-numbers c =
     let few : length c.args.unit.now.calls ≤ 500 = subst (λ k. length k ≤ 500) c.calls.ensures c.if-calls-gt500.false in
-    unit_below (0 + length c.args.unit.now.calls) (2 ^ 64 - 1) c.args.unit.now c.requires.within (omega (arith, few))
+    unit_below 0 (0 + length c.args.unit.now.calls) (2 ^ 64 - 1) c.args.unit.now c.requires.within (omega (arith, few))

@@ -6,16 +6,17 @@ use Rattle.bts_interp.specs.Steps.{next, statement_limit}
 use Rattle.bts_interp.proofs.Alone.{open_end}
 use Rattle.bts_interp.proofs.Places.{count_within}
 use Rattle.bts_interp.proofs.Turning.{by_calls, by_data, by_statements}
+use Rattle.bts_interp.specs.Running.{point_of}
 use Rattle.bts_interp.proofs.playing.next_command.Goals as goal
 
 pub returns-then-progress-gt-DATA_LIMIT-clause-next : goal.returns-then-progress-gt-DATA_LIMIT-clause-next
 returns-then-progress-gt-DATA_LIMIT-clause-next g c =
-    by_data c.args.script.now c.args.unit.now c.args.progress.place.now c.args.progress.used c.args.progress.bytes c.args.steps.now (open_end _ c.requires.open) c.requires.can.frame c.abend_all.new.self
+    by_data c.args.script.now c.args.unit.now (point_of c.args.progress c.args.steps.now) (open_end _ c.requires.open) c.requires.can.frame c.abend_all.new.self
     c.if-progress-gt-DATA_LIMIT.true (c.abend_all.ensures.done ∙ ap (λ k. abended_whole k c.args.unit.now) c.too_much_data.ensures)
 
 pub returns-in_default-clause-next : goal.returns-in_default-clause-next
 returns-in_default-clause-next g c =
-    by_statements c.args.script.now c.args.unit.now c.args.progress.place.now c.args.progress.used c.args.progress.bytes c.args.steps.now (open_end _ c.requires.open) c.requires.can.frame c.abend_all-in_default.new.self
+    by_statements c.args.script.now c.args.unit.now (point_of c.args.progress c.args.steps.now) (open_end _ c.requires.open) c.requires.can.frame c.abend_all-in_default.new.self
     c.requires.used c.if-progress-gt-DATA_LIMIT.false c.run_to_command.new.steps
     (c.in_default.ensures.reached ∙ ap (λ k. next (statement_limit - c.args.progress.used) c.args.script.now k c.args.progress.place.now) c.calls.ensures)
     c.in_default.ensures.steps
@@ -23,7 +24,7 @@ returns-in_default-clause-next g c =
 
 pub returns-then-calls-ge-CALL_LIMIT-clause-next : goal.returns-then-calls-ge-CALL_LIMIT-clause-next
 returns-then-calls-ge-CALL_LIMIT-clause-next g c =
-    by_calls c.args.script.now c.args.unit.now c.args.progress.place.now c.args.progress.used c.args.progress.bytes c.args.steps.now (open_end _ c.requires.open) c.requires.can.frame c.abend_all-then-calls-ge-CALL_LIMIT.new.self
+    by_calls c.args.script.now c.args.unit.now (point_of c.args.progress c.args.steps.now) (open_end _ c.requires.open) c.requires.can.frame c.abend_all-then-calls-ge-CALL_LIMIT.new.self
     c.requires.used c.if-progress-gt-DATA_LIMIT.false c.run_to_command.new.steps (reached_of c.args.unit.now.calls c.in-Some.reach)
     (subst (λ k. Some (reached_of k c.in-Some.reach) ≡ next (statement_limit - c.args.progress.used) c.args.script.now k c.args.progress.place.now) c.calls.ensures c.in-Some.ensures.reached)
     c.in-Some.ensures.steps

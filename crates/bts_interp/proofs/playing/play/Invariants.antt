@@ -1,6 +1,6 @@
 use Rattle.std.proofs.Common.{◌≡◌, ◌≤◌, ℕ, true, is_none}
 use Rattle.bts_unit.specs.Frames.{UnitOfWork}
-use Rattle.bts_interp.specs.Running.{CanGoOn, IsRun, IsUnderWay, turns_left}
+use Rattle.bts_interp.specs.Running.{CanGoOn, IsRun, IsUnderWay, first_point, point_of, turns_left}
 use Rattle.bts_interp.specs.Steps.{statement_limit}
 use Rattle.bts_interp.specs.Texts.{Texts}
 use Rattle.bts_interp.proofs.playing.play.Given as goal
@@ -12,8 +12,8 @@ invariant-loop-progress g l =
       used_fits : l.progress.used ≤ statement_limit;
       base : l.unit.base ≡ l.fn.unit.base;
       later : l.fn.steps ≤ l.steps;
-      run : (texts : Texts) (begun : UnitOfWork) (before : ℕ) → IsUnderWay texts l.script begun l.fn.unit l.script 0 0 before l.fn.steps
-          → IsRun texts l.script begun l.unit l.progress.place.now l.progress.used l.progress.bytes before l.steps;
+      run : (texts : Texts) (begun : UnitOfWork) (before : ℕ) → IsUnderWay texts l.script begun before l.fn.unit (first_point l.script l.fn.steps)
+          → IsRun texts l.script begun before l.unit (point_of l.progress l.steps);
     }
 
 abbrev pub decreases-loop-progress : goal.decreases-loop-progress

@@ -15,7 +15,7 @@ runs : (key : Key) (texts : Texts) → AreExecutable texts → IsRunnable (unit.
 runs key texts h = record {
   sound = record { tree = refl; containers = (new_process_is_sound key [] []).containers; active = refl };
   begins = refl;
-  bounded = within_none number_limit key;
+  bounded = within_none number_limit number_limit key;
   texts = h;
 }
 

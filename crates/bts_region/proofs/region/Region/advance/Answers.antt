@@ -16,6 +16,7 @@ invariant_of-self g c =
       history = refl;
       out = refl;
       processes = refl;
+      awake = λ h. h;
       units = refl;
       items = refl;
       activations = refl;

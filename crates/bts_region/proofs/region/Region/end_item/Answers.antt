@@ -12,10 +12,10 @@ use Rattle.bts_region.proofs.region.Region.end_item.Goals as goal
 abbrev behind_it : (g : Over) → goal.After-len g → Inside g.row.N.Denot
 behind_it g c = record c.self.inside { history = c.push_reserved.new.self; items_ended = c.self.inside.items_ended + 1 }
 
-offered : (g : Over) (c : goal.After-len g) → offer (state_of c.self.inside) ≡ work c.args.unit
+offered : (g : Over) (c : goal.After-len g) → offer (state_of g.N.Naming.name c.self.inside) ≡ work c.args.unit
 offered g c = ap offer c.self.view_is ∙ c.requires.offered
 
-alone : (g : Over) (c : goal.After-len g) → (state_of c.self.inside).out ≡ []
+alone : (g : Over) (c : goal.After-len g) → (state_of g.N.Naming.name c.self.inside).out ≡ []
 alone g c = ap (λ (z : RegionState). z.out) c.self.view_is ∙ c.requires.alone
 
 is_put : (g : Over) (c : goal.After-len g) → IsItemPut c.self.inside (behind_it g c) (ended_item c.args.unit c.self.inside.moment)
@@ -27,7 +27,7 @@ is_put g c = record {
       c.push_reserved.ensures.items
       ∙ (λ i. c.reserve.ensures.items i ++ record { unit = c.args.unit; moment = c.self.inside.moment; end = Commit; calls = c.new.ensures i; rows = c.new-2.ensures i; seq = 0 } ∷ []);
   gone = not_out g.N.Naming.name c.self.inside c.self.invariant c.args.unit (offered g c) (alone g c) c.requires.item;
-  processes = refl;
+  repository = refl;
   units = refl;
   items = refl;
   activations = refl;
@@ -41,7 +41,7 @@ invariant_of-self-2 g c =
 pub returns : goal.returns
 returns g c =
     let place : c.len.result ≡ length c.push_reserved.new.self.items = search rules in (
-      subst (λ (z : RegionState). state_of (behind_it g c) ≡ with_moment (ended_at_once c.args.unit z).moment (with_ended (ended_at_once c.args.unit z) z)) c.self.view_is
+      subst (λ (z : RegionState). state_of g.N.Naming.name (behind_it g c) ≡ with_moment (ended_at_once c.args.unit z).moment (with_ended (ended_at_once c.args.unit z) z)) c.self.view_is
           (item_told g.N.Naming.name c.self.inside c.self.invariant c.args.unit (offered g c) (alone g c) c.requires.item (behind_it g c) (is_put g c)),
       place,
     )
