@@ -9,7 +9,8 @@ use Rattle.bts_command.specs.declared.ended.UnitKind.{UnitKind}
 use Rattle.bts_unit.specs.Frames.{UnitOfWork, first_frame, path_of, program_at, top_frame}
 use Rattle.bts_unit.specs.Calls.{run, unit_behind}
 use Rattle.bts_unit.specs.Soundness.{IsSoundWithin}
-use Rattle.bts_interp.specs.Budgets.{data_bytes, statements_to, statements_with}
+use Rattle.bts_command.specs.Sizes.{data_bytes}
+use Rattle.bts_interp.specs.Budgets.{statements_to, statements_with}
 use Rattle.bts_interp.specs.NextCalls.{own_calls}
 use Rattle.bts_interp.specs.Ready.{AreExecutable, IsExecutable, number_limit}
 use Rattle.bts_interp.specs.Running.{CanGoOn, FollowsFirst, HasFrame, IsBegun, IsUnderWay, first_point}

@@ -11,8 +11,7 @@ use Rattle.bts_unit.specs.Frames.{UnitOfWork}
 use Rattle.bts_unit.specs.OneFrame.{is_of_one_frame}
 use Rattle.bts_unit.specs.Replays.{top_path}
 use Rattle.bts_unit.specs.Soundness.{IsSoundUnit, IsSoundWithin}
-use Rattle.bts_command.specs.Sizes.{put_bytes}
-use Rattle.bts_interp.specs.Budgets.{got_bytes}
+use Rattle.bts_command.specs.Sizes.{got_bytes, put_bytes}
 use Rattle.bts_interp.specs.Commands.{command_said}
 use Rattle.bts_interp.specs.Reaching.{reached_of}
 use Rattle.bts_interp.specs.declared.stepping.Reach.{Reach}

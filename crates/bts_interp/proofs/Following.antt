@@ -8,7 +8,8 @@ use Rattle.bts_command.specs.declared.command.Call.{Call}
 use Rattle.bts_command.specs.declared.ended.End.{End}
 use Rattle.bts_command.specs.declared.ended.End.TheVariants.{Abend}
 use Rattle.bts_unit.specs.Frames.{UnitOfWork}
-use Rattle.bts_interp.specs.Budgets.{call_limit, count_of, data_bytes, data_limit, due_end, end_before, end_by, end_of_open, statements_to, statements_with}
+use Rattle.bts_command.specs.Sizes.{data_bytes}
+use Rattle.bts_interp.specs.Budgets.{call_limit, count_of, data_limit, due_end, end_before, end_by, end_of_open, statements_to, statements_with}
 use Rattle.bts_unit.specs.Calls.{unit_behind}
 use Rattle.bts_interp.specs.NextCalls.{next_call}
 use Rattle.bts_interp.specs.Steps.{Reached, statement_limit}

@@ -11,7 +11,8 @@ use Rattle.bts_command.specs.declared.ended.End.{End}
 use Rattle.bts_command.specs.declared.ended.End.TheVariants.{Abend}
 use Rattle.bts_unit.specs.Calls.{call, commands_of, unit_behind}
 use Rattle.bts_unit.specs.Frames.{OpenFrame, UnitOfWork}
-use Rattle.bts_interp.specs.Budgets.{call_limit, count_of, data_bytes, data_limit, due_end, end_before, end_by, end_of_open, statements_to, statements_with}
+use Rattle.bts_command.specs.Sizes.{data_bytes}
+use Rattle.bts_interp.specs.Budgets.{call_limit, count_of, data_limit, due_end, end_before, end_by, end_of_open, statements_to, statements_with}
 use Rattle.bts_interp.specs.NextCalls.{next_call, next_in}
 use Rattle.bts_interp.specs.Steps.{Reached, statement_limit}
 use Rattle.bts_interp.specs.Talks.{Follows, IsTalk, next_command}

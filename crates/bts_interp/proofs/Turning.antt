@@ -12,7 +12,8 @@ use Rattle.bts_unit.specs.Frames.{OpenFrame, UnitOfWork}
 use Rattle.bts_unit.specs.OneFrame.{is_of_one_frame}
 use Rattle.bts_unit.specs.Playing.{budgeted, budgeted_by, is_budget}
 use Rattle.bts_unit.specs.Replays.{top_path}
-use Rattle.bts_interp.specs.Budgets.{call_bytes, call_limit, count_of, data_bytes, data_limit, statements_of, statements_to}
+use Rattle.bts_command.specs.Sizes.{call_bytes, data_bytes}
+use Rattle.bts_interp.specs.Budgets.{call_limit, count_of, data_limit, statements_of, statements_to}
 use Rattle.bts_interp.specs.NextCalls.{is_on_top, next_call, next_in, own_calls, with_own}
 use Rattle.bts_interp.specs.Running.{FollowsFirst, GoesOn, HasFrame, IsPlayed, IsRun, IsRunBy, IsUnderWay, MayCall, Point, Stops}
 use Rattle.bts_interp.specs.Steps.{Reached, Script, next, next_of, place_behind, place_of, statement_limit}

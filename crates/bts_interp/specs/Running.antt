@@ -5,7 +5,8 @@ use Rattle.bts_command.specs.declared.ended.UnitKind.{UnitKind}
 use Rattle.bts_unit.specs.Frames.{OpenFrame, UnitOfWork, start}
 use Rattle.bts_unit.specs.Playing.{budgeted}
 use Rattle.bts_unit.specs.Soundness.{IsSoundUnit, IsSoundWithin}
-use Rattle.bts_interp.specs.Budgets.{call_limit, data_bytes, data_limit, statements_of, statements_to}
+use Rattle.bts_command.specs.Sizes.{data_bytes}
+use Rattle.bts_interp.specs.Budgets.{call_limit, data_limit, statements_of, statements_to}
 use Rattle.bts_unit.specs.Calls.{unit_behind}
 use Rattle.bts_interp.specs.NextCalls.{own_calls}
 use Rattle.bts_interp.specs.Ready.{IsExecutable, IsRunnable, number_limit}

@@ -6,7 +6,8 @@ use Rattle.bts_command.specs.declared.command.Call.{Call}
 use Rattle.bts_command.specs.declared.command.Command.{Command}
 use Rattle.bts_command.specs.declared.ended.End.{End}
 use Rattle.bts_unit.specs.Frames.{UnitOfWork}
-use Rattle.bts_interp.specs.Budgets.{call_limit, data_bytes, data_limit, due_end, statements_to}
+use Rattle.bts_command.specs.Sizes.{data_bytes}
+use Rattle.bts_interp.specs.Budgets.{call_limit, data_limit, due_end, statements_to}
 use Rattle.bts_interp.specs.NextCalls.{next_call}
 use Rattle.bts_interp.specs.Steps.{statement_limit}
 use Rattle.bts_interp.specs.Texts.{Texts}

@@ -1,6 +1,7 @@
 // A unit is run along its script, call by call, until it ends.
 ghost use Rattle.std.specs.Prelude.{◌≡◌, ◌+◌, ◌<◌, ◌≤◌, ℕ, true, IfOk, IfSome, OnOk, OnErr, MatchOption, is_none, is_some};
 ghost use Rattle.bts_unit.specs.Frames.{UnitOfWork};
+ghost use Rattle.bts_command.specs.Sizes as sizes;
 ghost use Rattle.bts_interp.specs.Budgets as budgets;
 ghost use Rattle.bts_interp.specs.Reaching.{reached_of};
 ghost use Rattle.bts_interp.specs.Running.{CanGoOn, GoesOn, IsPlayed, IsUnderWay, MayCall, Stops, first_point, point_of, turns_left};
@@ -33,7 +34,7 @@ struct Progress<'a> {
 
 /// The bytes that a reply gives.
 fn got_bytes(value: &Value) -> u64
-    ensures { result ≡ budgets.got_bytes value.now }
+    ensures { result ≡ sizes.got_bytes value.now }
 {
     match value {
         Value::Bytes(bytes) => bytes.len() as u64,
