@@ -12,38 +12,21 @@ use Rattle.bts_unit.specs.Soundness.{IsSoundWithin}
 use Rattle.bts_command.specs.Sizes.{data_bytes}
 use Rattle.bts_interp.specs.Budgets.{statements_to, statements_with}
 use Rattle.bts_interp.specs.NextCalls.{own_calls}
-use Rattle.bts_interp.specs.Ready.{AreExecutable, IsExecutable, number_limit}
+use Rattle.bts_interp.specs.Ready.{AreExecutable, IsExecutable, MayBeExecuted, number_limit}
 use Rattle.bts_interp.specs.Running.{CanGoOn, FollowsFirst, HasFrame, IsBegun, IsUnderWay, first_point}
 use Rattle.bts_interp.specs.Steps.{Script, place_behind}
 use Rattle.bts_interp.specs.Talks.{Follows}
 use Rattle.bts_interp.specs.Texts.{Programs, Texts, no_program, script_in}
 use Rattle.bts_interp.proofs.Following.{nothing_follows}
+use Rattle.bts_interp.proofs.Leads.{script_all}
 
 -- ---- the texts are executable
 
 missing_may : IsExecutable no_program
 missing_may = (record { given = record { names = refl; few_subs = lit≤ tt }; in_request = refl; in_activity = refl; makes_none = refl }, tt)
 
-abbrev MayRun : Option Script → Type 0
-MayRun None = Unit {0}
-MayRun (Some script) = IsExecutable script
-
-either : (t : Bool) (a : Script) (o : Option Script) → IsExecutable a → MayRun o → MayRun (cond t (Some a) o)
-either true a o h g = h
-either false a o h g = g
-
-lookup_may : (name : Name) (programs : Programs) → AllByRecursion (λ x. IsExecutable x.1) programs → MayRun (lookup name programs)
-lookup_may name [] h = tt
-lookup_may name (x ∷ xs) h = either _ x.1 (lookup name xs) h.0 (lookup_may name xs h.1)
-
-found_may : (o : Option Script) → MayRun o → IsExecutable (unwrap_or o no_program)
-found_may None h = missing_may
-found_may (Some script) h = h
-
 pub script_may : (texts : Texts) (at : Option ActivityPath) (program : Option Name) → AreExecutable texts → IsExecutable (script_in texts at program)
-script_may texts None program h = h.block
-script_may texts (Some p) None h = missing_may
-script_may texts (Some p) (Some name) h = found_may (lookup name texts.programs) (lookup_may name texts.programs h.programs)
+script_may texts at program h = script_all MayBeExecuted missing_may texts at program h.programs h.block
 
 -- ---- a unit that has begun
 

@@ -6,21 +6,13 @@ use Rattle.bts_command.specs.declared.command.Command.{Command}
 use Rattle.bts_unit.specs.Calls.{commands_of, unit_behind}
 use Rattle.bts_unit.specs.Frames.{OpenFrame, UnitOfWork}
 use Rattle.bts_interp.specs.NextCalls.{next_call, next_in, own_calls}
-use Rattle.bts_interp.specs.Ready.{AreExecutable, IsExecutable, MayBeCalled}
+use Rattle.bts_interp.specs.Ready.{AreExecutable, IsExecutable, MayBeCalled, MayBeExecuted}
 use Rattle.bts_interp.specs.Steps.{Reached, Script, next_at, place_behind, place_of, statement_limit}
 use Rattle.bts_interp.specs.Talks.{Follows, command_at}
 use Rattle.bts_interp.specs.Texts.{Texts, frame_script}
 use Rattle.bts_interp.proofs.Beginning.{script_may}
-use Rattle.bts_interp.proofs.Executable.{May, next_may}
-
-place_may : (o : Option Reached) → May o → IsExecutable (place_of o)
-place_may None h = tt
-place_may (Some r) h = h.place
-
-behind_may : (script : Script) → IsExecutable script → (made own : List Call) (place : Script) → IsExecutable place → IsExecutable (place_behind script made own place)
-unfolding place_behind
-behind_may script s made [] place h = h
-behind_may script s made (c ∷ cs) place h = behind_may script s (made ++ c ∷ []) cs (place_of (next_at script made place)) (place_may (next_at script made place) (next_may script made s statement_limit place h))
+use Rattle.bts_interp.proofs.Executable.{May, follow_may, next_may}
+use Rattle.bts_interp.proofs.Leads.{behind_leads}
 
 abbrev IsCalled : Option Command → Type 0
 IsCalled None = Unit {0}
@@ -44,7 +36,7 @@ module _ (texts : Texts) (u : UnitOfWork) (h : AreExecutable texts) where
       let script : Script = frame_script texts f in
       let own : List Call = own_calls f.opened u calls in
       let s : IsExecutable script = script_may texts f.at f.program h in
-      next_may script own s statement_limit (place_behind script [] own script) (behind_may script s [] own script s)
+      next_may script own s statement_limit (place_behind script [] own script) (behind_leads MayBeExecuted (λ made. MayBeCalled) script follow_may s [] own script s)
 
   called_may : (calls : List Call) → May (next_call texts u calls)
   unfolding next_call

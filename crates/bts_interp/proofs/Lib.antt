@@ -8,6 +8,8 @@ mod Places
 mod Ending
 mod Alone
 pub mod Executable
+pub mod Leads
+pub mod ShortCalls
 mod Turning
 mod Calling
 mod Numbered

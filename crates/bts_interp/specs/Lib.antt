@@ -13,3 +13,4 @@ pub mod Errands
 pub mod Ready
 pub mod Running
 pub mod Stations
+pub mod Short

@@ -22,7 +22,7 @@ mod steps;
 mod texts;
 
 pub use job::{Done, Job};
-pub use laws::texts_allow_one_talk;
+pub use laws::{texts_allow_one_talk, what_a_unit_carries_is_short};
 pub use naming::Naming;
 pub use running::run_job;
 pub use station::{FinishError, Refused, Station, Work};

@@ -1,13 +1,13 @@
 -- A unit that holds a process of a region, and may begin on it, can be run.
 use Rattle.std.proofs.Common.{◌≡◌, ◌≤◌, ◌*◌, ◌^◌, ℕ, ◌+◌, Bool, true, false, cond, nat_eq, List, [], ◌∷◌, map, Option, None, Some, refl, sym, subst, arith}
-use Rattle.std.specs.List.{AllByRecursion, enumerate_from, find}
-use Rattle.std.specs.Option.{option_map}
+use Rattle.std.specs.List.{AllByRecursion}
 use Rattle.bts_command.specs.declared.ended.UnitKind.{UnitKind}
 use Rattle.bts_command.specs.declared.ended.UnitKind.TheVariants as unit
-use Rattle.bts_interp.specs.Items.{Numbered, block_in, item_in, item_of, texts_of}
+use Rattle.bts_interp.specs.Items.{block_in, item_of, texts_of}
 use Rattle.bts_interp.specs.Names.{Named}
-use Rattle.bts_interp.specs.Ready.{AreExecutable, IsExecutable, IsRunnable}
+use Rattle.bts_interp.specs.Ready.{AreExecutable, IsExecutable, IsRunnable, MayBeExecuted}
 use Rattle.bts_interp.specs.Stations.{Out}
+use Rattle.bts_interp.proofs.Leads.{block_all}
 use Rattle.bts_names.specs.declared.key.Key.{Key}
 use Rattle.bts_region.specs.Enabled.{is_enabled}
 use Rattle.bts_region.proofs.Owing.{nothing_owed}
@@ -32,21 +32,8 @@ executable_block (item.Clock moment) m = tt
 executable_block item.Settle m = tt
 executable_block (item.Browse criteria) m = tt
 
-executable_among : (n k : ℕ) (items : List Item) → AllByRecursion MayBeDone items → IsExecutable (block_in (option_map (λ (x : Numbered). x.1) (find (λ (x : Numbered). nat_eq x.0 n) (enumerate_from k items))))
-executable_among n k [] m = tt
-executable_among n k (i ∷ items) m = by (nat_eq k n) (executable_among n (k + 1) items m.1)
-  where
-    by : (b : Bool) → IsExecutable (block_in (option_map (λ (x : Numbered). x.1) (find (λ (x : Numbered). nat_eq x.0 n) (enumerate_from (k + 1) items))))
-        → IsExecutable (block_in (option_map (λ (x : Numbered). x.1) (cond b (Some (k, i)) (find (λ (x : Numbered). nat_eq x.0 n) (enumerate_from (k + 1) items)))))
-    by true others = executable_block i m.0
-    by false others = others
-
-executable_in : (session : Session) (o : Option ℕ) → IsOfToday session → IsExecutable (block_in (item_in session o))
-executable_in session None t = tt
-executable_in session (Some n) t = executable_among n 1 session.items t.items
-
 pub texts_executable : (session : Session) (u : UnitKind) → IsOfToday session → AreExecutable (texts_of session u)
-texts_executable session u t = record { programs = t.programs; block = executable_in session (item_of u) t }
+texts_executable session u t = record { programs = t.programs; block = block_all MayBeDone MayBeExecuted executable_block session (item_of u) t.items }
 
 -- ---- what is out may begin
 
