@@ -5,6 +5,7 @@ use Rattle.bts_command.specs.declared.ended.UnitKind.TheVariants as unit
 use Rattle.bts_driver.specs.Turns.{stop_answer}
 use Rattle.bts_driver.specs.declared.driver.Stop.{Stop}
 use Rattle.bts_driver.specs.declared.driver.Stop.TheVariants as stop
+use Rattle.bts_interp.specs.Names.{Named}
 use Rattle.bts_region.specs.Answers.{begun, offer_alone}
 use Rattle.bts_region.specs.AsStation.{IsDue}
 use Rattle.bts_region.specs.Enabled.{least, works}
@@ -13,12 +14,11 @@ use Rattle.bts_region.specs.Regions.{IsRegionInOrder, RegionState, all_done, lim
 use Rattle.bts_region.specs.Serial.{IsInOrder, activations_in, is_over}
 use Rattle.bts_region.proofs.EachOnce.{each_once}
 use Rattle.bts_region.proofs.Offers.{limit_on_offer, none_on_offer}
-use Rattle.bts_session.specs.declared.session.Session.{Session}
 use Rattle.bts_tree.specs.Repositories.{Place}
 use Rattle.bts_tool.specs.Runs.{IsAllDone, IsAtLimit, IsRunOf, IsStopped}
 
-pub begins_in_order : (session : Session) (limit : ℕ) → IsRegionInOrder (begun session limit)
-begins_in_order session limit = record { history = record { legal = tt; clocked = tt; least = tt; limited = omega arith }; moment = refl; out = tt }
+pub begins_in_order : (name : Named) → IsRegionInOrder (begun name)
+begins_in_order name = record { history = record { legal = tt; clocked = tt; least = tt; limited = omega arith }; moment = refl; out = tt }
 
 module _ (r : RegionState) (opening : r.opening ≡ origin) (nothing_out : r.out ≡ []) (o : IsRegionInOrder r) where
   in_order : IsInOrder r.session origin r.limit r.history
