@@ -1,5 +1,5 @@
 // Work done one unit after the other.
-ghost use Rattle.std.specs.Prelude.{◌≡◌, ℕ, ◌≤◌, List, [], ◌∷◌, IfSome, false};
+ghost use Rattle.std.specs.Prelude.{◌≡◌, ℕ, [], ◌∷◌, IfSome, false};
 ghost use Rattle.bts_driver.specs.Turns.{Grows, HasMore, is_ended, stop_answer};
 ghost use Rattle.bts_interp.specs.Jobs as jobs;
 ghost use Rattle.bts_interp.specs.Stations.{PutsNone};

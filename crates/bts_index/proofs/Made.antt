@@ -1,7 +1,6 @@
 -- The index that is made over processes keeps the keys of those with an activation to run.
 use Rattle.std.proofs.Common.{◌≡◌, ◌<◌, ◌≤◌, Bool, true, false, not, cond, ◌||◌, List, [], ◌∷◌, ◌++◌, length, map, Option, None, Some, refl, sym, ap, ◌∙◌, subst, arith}
 use Rattle.std.specs.List.{AllByRecursion, filter, find}
-use Rattle.std.specs.List.Sorted.{IsStrictlySortedBy}
 use Rattle.std.specs.Ordering.{is_eq, is_gt, is_lt, ordering_reverse, ordering_then}
 use Rattle.std.specs.declared.cmp.Ordering.{Ordering}
 use Rattle.std.specs.declared.cmp.Ordering.TheVariants.{Less, Equal, Greater}
@@ -11,10 +10,10 @@ use Rattle.bts_names.specs.declared.key.Key.{Key}
 use Rattle.bts_names.proofs.Sameness.{keys_exact}
 use Rattle.bts_tree.proofs.Least.{first_is_least, none_is_behind, place_total}
 use Rattle.bts_tree.proofs.Orders.{chosen_in_order}
-use Rattle.bts_tree.specs.Activities.{Activities, is_ready}
+use Rattle.bts_tree.specs.Activities.{is_ready}
 use Rattle.bts_tree.specs.declared.activity.Activity.{Activity}
 use Rattle.bts_tree.specs.Processes.{Process, activities}
-use Rattle.bts_tree.specs.Repositories.{HasNoneBehind, IsLeastBehind, Place, Processes, chosen_at, chosen_of, first_behind, is_behind, keys_of_processes, place_cmp, process_at, ready_in, same_key}
+use Rattle.bts_tree.specs.Repositories.{HasNoneBehind, IsLeastBehind, Place, Processes, chosen_at, chosen_of, first_behind, is_behind, place_cmp, process_at, ready_in, same_key}
 use Rattle.bts_tree.specs.Scopes.{is_empty}
 use Rattle.bts_tree.specs.Soundness.{AreSound}
 use Rattle.bts_index.specs.Indexes.{has_key, is_awake}

@@ -1,10 +1,8 @@
 -- A unit before its first call can go on, and is under way.
-use Rattle.std.proofs.Common.{◌≡◌, ℕ, ◌+◌, ◌≤◌, true, [], ◌∷◌, length, Option, None, Some, cond, Bool, false, unwrap_or, refl, sym, ap, ◌∙◌, subst, lit≤}
-use Rattle.std.specs.List.{AllByRecursion}
+use Rattle.std.proofs.Common.{◌≡◌, ℕ, ◌+◌, ◌≤◌, [], ◌∷◌, length, Option, refl, sym, ap, ◌∙◌, subst, lit≤}
 use Rattle.std.specs.Option.{option_and_then}
 use Rattle.std.proofs.Math.Nat.{add-zero}
 use Rattle.bts_names.specs.Names.{ActivityPath, Name}
-use Rattle.bts_names.specs.Named.{lookup}
 use Rattle.bts_command.specs.declared.ended.UnitKind.{UnitKind}
 use Rattle.bts_unit.specs.Frames.{UnitOfWork, first_frame, path_of, program_at, top_frame}
 use Rattle.bts_unit.specs.Calls.{run, unit_behind}
@@ -16,7 +14,7 @@ use Rattle.bts_interp.specs.Ready.{AreExecutable, IsExecutable, MayBeExecuted, n
 use Rattle.bts_interp.specs.Running.{CanGoOn, FollowsFirst, HasFrame, IsBegun, IsUnderWay, first_point}
 use Rattle.bts_interp.specs.Steps.{Script, place_behind}
 use Rattle.bts_interp.specs.Talks.{Follows}
-use Rattle.bts_interp.specs.Texts.{Programs, Texts, no_program, script_in}
+use Rattle.bts_interp.specs.Texts.{Texts, no_program, script_in}
 use Rattle.bts_interp.proofs.Following.{nothing_follows}
 use Rattle.bts_interp.proofs.Leads.{script_all}
 

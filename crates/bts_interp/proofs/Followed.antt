@@ -1,5 +1,5 @@
 -- What units call that follow executable texts.
-use Rattle.std.proofs.Common.{◌≡◌, suc, List, [], ◌∷◌, ◌++◌, take, Option, None, Some, option_map, subst, arith}
+use Rattle.std.proofs.Common.{◌≡◌, suc, List, [], ◌∷◌, take, Option, None, Some, option_map, subst, arith}
 use Rattle.std.specs.List.{AllByRecursion, EachIndex}
 use Rattle.bts_command.specs.declared.command.Call.{Call}
 use Rattle.bts_command.specs.declared.command.Command.{Command}
@@ -7,7 +7,7 @@ use Rattle.bts_unit.specs.Calls.{commands_of, unit_behind}
 use Rattle.bts_unit.specs.Frames.{OpenFrame, UnitOfWork}
 use Rattle.bts_interp.specs.NextCalls.{next_call, next_in, own_calls}
 use Rattle.bts_interp.specs.Ready.{AreExecutable, IsExecutable, MayBeCalled, MayBeExecuted}
-use Rattle.bts_interp.specs.Steps.{Reached, Script, next_at, place_behind, place_of, statement_limit}
+use Rattle.bts_interp.specs.Steps.{Reached, Script, place_behind, statement_limit}
 use Rattle.bts_interp.specs.Talks.{Follows, command_at}
 use Rattle.bts_interp.specs.Texts.{Texts, frame_script}
 use Rattle.bts_interp.proofs.Beginning.{script_may}

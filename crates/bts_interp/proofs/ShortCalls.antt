@@ -1,27 +1,23 @@
 -- What the calls of a unit carry that follows short texts.
-use Rattle.std.proofs.Common.{◌≡◌, ℕ, suc, ◌+◌, ◌<◌, ◌≤◌, Bool, true, false, List, [], ◌∷◌, ◌++◌, length, take, refl, sym, ap, subst, ◌∙◌, arith, Option, None, Some, option_map}
-use Rattle.std.specs.Prelude.{replicate, unwrap_or, codes}
+use Rattle.std.proofs.Common.{◌≡◌, ℕ, ◌+◌, ◌<◌, ◌≤◌, Bool, true, false, List, [], ◌∷◌, ◌++◌, length, take, refl, sym, subst, ◌∙◌, arith, Option, None, Some, option_map}
+use Rattle.std.specs.Prelude.{replicate, unwrap_or}
 use Rattle.std.specs.Option.{option_or}
-use Rattle.std.specs.List.{AllByRecursion, EachIndex, slice_get, sum_by}
+use Rattle.std.specs.List.{AllByRecursion}
 use Rattle.std.proofs.Math.Seq.{take-append_seam}
 use Rattle.std.proofs.lemmas.List.{length-append, length-replicate}
 use Rattle.std.proofs.lemmas.List.Sums.{sum_by-append, sum_by-cons}
-use Rattle.bts_names.specs.Names.{ActivityPath, Bytes, Name}
-use Rattle.bts_names.specs.Named.{lookup}
+use Rattle.bts_names.specs.Names.{ActivityPath, Bytes}
 use Rattle.bts_names.specs.declared.reply.Value.{Value}
 use Rattle.bts_names.specs.declared.reply.Value.TheVariants as value
 use Rattle.bts_command.specs.Given.{IsGiven}
 use Rattle.bts_command.specs.Sizes.{call_bytes, data_bytes, got_bytes, put_bytes}
 use Rattle.bts_command.specs.declared.command.Call.{Call}
 use Rattle.bts_command.specs.declared.command.Command.{Command}
-use Rattle.bts_command.specs.declared.command.Command.TheVariants as command
-use Rattle.bts_command.specs.declared.command.Spot.{Spot}
 use Rattle.bts_command.specs.declared.ended.UnitKind.{UnitKind}
 use Rattle.bts_container.specs.Containers.{size_limit}
 use Rattle.bts_forms.specs.Sizes.{IsShort, said_bytes}
 use Rattle.bts_forms.specs.declared.statement.Given.{Given}
 use Rattle.bts_forms.specs.declared.statement.Given.TheVariants as given
-use Rattle.bts_forms.specs.declared.statement.Statement.TheVariants as statement
 use Rattle.bts_unit.specs.Calls.{call, commands_of, unit_behind}
 use Rattle.bts_tree.specs.Processes.{Process}
 use Rattle.bts_tree.specs.Soundness.{IsSoundInFrames}
@@ -43,7 +39,7 @@ use Rattle.bts_interp.specs.NextCalls.{next_call, next_in, own_calls, is_on_top,
 use Rattle.bts_interp.specs.Short.{AreShortTexts, most_data}
 use Rattle.bts_interp.specs.Steps.{Reached, Script, next_at, place_behind, statement_limit}
 use Rattle.bts_interp.specs.Talks.{Follows, command_at, next_command}
-use Rattle.bts_interp.specs.Texts.{Programs, Texts, frame_script, no_program, program_of, script_in}
+use Rattle.bts_interp.specs.Texts.{Texts, frame_script, no_program}
 use Rattle.bts_interp.specs.Ready.{AreExecutable, MayBeCalled}
 use Rattle.bts_interp.proofs.Executable.{may_in}
 use Rattle.bts_interp.proofs.Followed.{follows_may}

@@ -1,8 +1,5 @@
 -- What a unit may use, and the end that is due behind its calls.
 use Rattle.std.specs.Prelude.{ℕ, ◌+◌, ◌-◌, min, cond, nat_le, nat_lt, List, [], ◌∷◌, ◌++◌, length, Option, Some, None, codes}
-use Rattle.std.specs.List.{sum_by}
-use Rattle.bts_names.specs.declared.reply.Value.{Value}
-use Rattle.bts_names.specs.declared.reply.Value.TheVariants as value
 use Rattle.bts_command.specs.Sizes.{data_bytes}
 use Rattle.bts_command.specs.declared.command.Call.{Call}
 use Rattle.bts_command.specs.declared.ended.End.{End}

@@ -1,8 +1,7 @@
 // A unit is run along its script, call by call, until it ends.
-ghost use Rattle.std.specs.Prelude.{◌≡◌, ◌+◌, ◌<◌, ◌≤◌, ℕ, true, IfOk, IfSome, OnOk, OnErr, MatchOption, is_none, is_some};
+ghost use Rattle.std.specs.Prelude.{◌≡◌, ◌+◌, ◌<◌, ◌≤◌, ℕ, true, IfOk, IfSome, OnOk, MatchOption, is_none, is_some};
 ghost use Rattle.bts_unit.specs.Frames.{UnitOfWork};
 ghost use Rattle.bts_command.specs.Sizes as sizes;
-ghost use Rattle.bts_interp.specs.Budgets as budgets;
 ghost use Rattle.bts_interp.specs.Reaching.{reached_of};
 ghost use Rattle.bts_interp.specs.Running.{CanGoOn, GoesOn, IsPlayed, IsUnderWay, MayCall, Stops, first_point, point_of, turns_left};
 ghost use Rattle.bts_interp.specs.Steps.{statement_limit};

@@ -8,7 +8,7 @@ use Rattle.bts_command.specs.declared.ended.Ended.{Ended}
 use Rattle.bts_command.specs.declared.ended.UnitKind.{UnitKind}
 use Rattle.bts_command.specs.declared.ended.UnitKind.TheVariants as unit
 use Rattle.bts_interp.specs.Items.{Numbered, item_done, item_in, item_of}
-use Rattle.bts_interp.specs.Stations.{Out, PutsNone, PutsOne, has_ticket}
+use Rattle.bts_interp.specs.Stations.{Out, has_ticket}
 use Rattle.bts_interp.specs.Jobs as jobs
 use Rattle.bts_interp.specs.Stations as station
 use Rattle.bts_interp.specs.declared.station.Refused.{Refused}
@@ -26,7 +26,7 @@ use Rattle.bts_region.specs.Histories.{IsLegal, last_clock}
 use Rattle.bts_region.specs.Items.{clock_in, items_of}
 use Rattle.bts_command.specs.Kinds.{is_activation, key_of}
 use Rattle.bts_region.specs.Positions.{Position, behind_all}
-use Rattle.bts_region.specs.Regions.{IsKept, IsLeastOut, IsRegionInOrder, Offer, RegionState, all_done, idle, kinds_out, limit_met, offer, position_of, wait}
+use Rattle.bts_region.specs.Regions.{IsKept, IsLeastOut, IsRegionInOrder, Offer, RegionState, all_done, limit_met, position_of, wait}
 use Rattle.bts_region.specs.Regions as regions
 use Rattle.bts_region.specs.Serial.{activations_in}
 use Rattle.bts_session.specs.declared.session.Item.{Item}

@@ -1,5 +1,5 @@
 // Units that end.
-ghost use Rattle.std.specs.Prelude.{◌≡◌, ◌≤◌, ◌<◌, ◌+◌, ◌^◌, ◌↔◌, cond, not, vec_len, vec_capacity, IfOk, IfErr, OnOk, OnErr, MatchOption, Ok, Some, IsTrue, true, false};
+ghost use Rattle.std.specs.Prelude.{◌≡◌, ◌≤◌, ◌<◌, ◌+◌, ◌↔◌, cond, vec_len, vec_capacity, IfOk, IfErr, OnOk, OnErr, MatchOption, Ok, Some, IsTrue, true, false};
 ghost use Rattle.bts_interp.specs.Jobs.{executed};
 ghost use Rattle.bts_interp.specs.Stations.{has_ticket};
 ghost use Rattle.bts_region.specs.Answers.{CountsLast, Ends, Fits, IsDueUnder, Refuses};

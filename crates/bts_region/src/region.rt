@@ -1,5 +1,5 @@
 // The value behind the lock.
-ghost use Rattle.std.specs.Prelude.{◌≡◌, ℕ, [], length, MatchResult, IfOk, true, false};
+ghost use Rattle.std.specs.Prelude.{◌≡◌, [], length, MatchResult, IfOk, true, false};
 ghost use Rattle.std.specs.List.{AllByRecursion};
 ghost use Rattle.bts_interp.specs.Stations.{has_ticket, without};
 ghost use Rattle.bts_region.specs.Answers.{begun, with_moment, with_out};

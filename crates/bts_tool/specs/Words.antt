@@ -1,5 +1,5 @@
 -- The words of the command line.
-use Rattle.std.specs.Prelude.{ℕ, ◌-◌, Bool, false, not, nat_eq, ◌&&◌, cond, List, [], ◌∷◌, take, drop, map, string_bytes, codes, Option, Some, None, Result, Ok, Err}
+use Rattle.std.specs.Prelude.{ℕ, ◌-◌, Bool, false, not, nat_eq, ◌&&◌, cond, List, [], ◌∷◌, take, drop, codes, Option, Some, None}
 use Rattle.std.specs.Vec.Iter.{into_iter_items, into_iter_len}
 use Rattle.std.specs.declared.vec.IntoIter.{IntoIter}
 use Rattle.std.specs.Str.{bytes_eq}

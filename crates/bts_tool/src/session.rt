@@ -1,5 +1,5 @@
 // A session that is done.
-ghost use Rattle.std.specs.Prelude.{◌≡◌, ◌<◌, ◌≤◌, IfOk};
+ghost use Rattle.std.specs.Prelude.{◌≡◌, ◌<◌, IfOk};
 ghost use Rattle.bts_region.specs.Positions.{opened_at, origin};
 ghost use Rattle.bts_region.specs.Today.{IsSmall, MayOpen};
 ghost use Rattle.bts_session.specs.Today.{IsSessionOfToday};

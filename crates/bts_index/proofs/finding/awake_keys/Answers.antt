@@ -1,5 +1,5 @@
 use Rattle.std.proofs.Common.{◌≡◌, Some, None, refl, sym, ap, ◌∙◌, subst}
-use Rattle.bts_index.specs.Indexes.{HaveRoom, has_key, is_awake}
+use Rattle.bts_index.specs.Indexes.{HaveRoom}
 use Rattle.bts_index.proofs.Made.{IsSeen, all_seen, fewer_behind, more_seen, none_seen}
 use Rattle.bts_index.proofs.finding.awake_keys.Goals as goal
 use Rattle.bts_tree.specs.Repositories.{first_behind, place_cmp, ready_in}
