@@ -1,9 +1,10 @@
 -- What an executable script reaches may be called.
-use Rattle.std.proofs.Common.{◌≡◌, ℕ, true, false, List, Option, None, Some, refl, subst, lit≤}
+use Rattle.std.proofs.Common.{◌≡◌, ℕ, true, false, List, [], ◌∷◌, ◌++◌, Option, None, Some, refl, subst, lit≤}
 use Rattle.bts_names.specs.Names.{ActivityPath}
 use Rattle.bts_command.specs.declared.command.Call.{Call}
 use Rattle.bts_command.specs.declared.command.Command.{Command}
 use Rattle.bts_command.specs.declared.command.Command.TheVariants as command
+use Rattle.bts_forms.specs.declared.statement.Statement.{Statement}
 use Rattle.bts_unit.specs.OneFrame.{is_of_one_frame}
 use Rattle.bts_interp.specs.Facts.{bytes_of}
 use Rattle.bts_interp.specs.Ready.{IsExecutable, MayBeCalled, MayBeExecuted}
@@ -32,3 +33,9 @@ next_may script own executable n place h = next_leads MayBeExecuted MayBeCalled 
 
 pub reached_may : (script : Script) (own : List Call) → IsExecutable script → (n : ℕ) (place : Script) (r : Reached) → IsExecutable place → next n script own place ≡ Some r → MayFollow r
 reached_may script own executable n place r h e = subst May e (next_may script own executable n place h)
+
+-- ---- scripts that grow
+
+pub one_more_may : (script : Script) (s : Statement) → IsExecutable script → MayBeExecuted s → IsExecutable (script ++ s ∷ [])
+one_more_may [] s h g = (g, tt)
+one_more_may (x ∷ xs) s h g = (h.0, one_more_may xs s h.1 g)
