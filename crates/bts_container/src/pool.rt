@@ -9,6 +9,7 @@ ghost use Rattle.bts_container.specs.Containers.{IsPool, put_container, delete_c
 ghost use Rattle.bts_container.specs.Puts.{refusal_of_put, Answers};
 
 use crate::PutError;
+use crate::shared::Shared;
 use bts_names::{Blob, Name16, NoMemory};
 use indexmap::IndexMap;
 use std::alloc::Global;
@@ -24,7 +25,7 @@ const COUNT_LIMIT: usize = 64;
 /// at most 64, each of at most 32,768 bytes, and no name twice.
 #[derive(Drop)]
 pub struct ContainerPool {
-    map: IndexMap<Name16, Blob>,
+    map: IndexMap<Name16, Shared>,
 }
 
 impl Model for ContainerPool {
@@ -52,8 +53,16 @@ impl ContainerPool {
         requires { IsPool containers.items }
         ensures { IfOk result (λ pool. pool ≡ containers.items) }
     {
-        let map = map_of(alloc, containers)?;
+        let shared = shared_all(alloc, containers)?;
+        let map = map_of(alloc, shared)?;
         Ok(ContainerPool { map })
+    }
+
+    /// Why bytes can't be put under a name: Long, then Limit; None where only memory may be wanting.
+    pub fn refuses_put(&self, name: Name16, bytes: &[u8]) -> Option<PutError>
+        ensures { result ≡ refusal_of_put name bytes.now self.now }
+    {
+        refuses_put(&self.map, &name, bytes)
     }
 
     /// Puts the bytes under a name: a new name goes last, a present one keeps its place. The bytes are
@@ -66,7 +75,7 @@ impl ContainerPool {
         if let Some(error) = refuses_put(&self.map, &name, bytes) {
             return Err(error);
         }
-        let Ok(blob) = Blob::copy_of(alloc, bytes) else {
+        let Ok(blob) = Shared::copy_of(alloc, bytes) else {
             return Err(PutError::NoMemory);
         };
         match self.map.insert(name, blob) {
@@ -124,12 +133,13 @@ impl ContainerPool {
         }
     }
 
-    /// A pool of the same containers. All bytes are copied.
+    /// A pool of the same containers. The bytes are shared, and the time grows with the number of containers.
     pub fn copy(&self, alloc: Global) -> Result<ContainerPool, NoMemory>
         ensures { IfOk result (λ copy. copy ≡ self.now) }
     {
         let containers = copies(alloc, &self.map)?;
-        ContainerPool::from_parts(alloc, containers)
+        let map = map_of(alloc, containers)?;
+        Ok(ContainerPool { map })
     }
 
     /// Whether both have the same containers in the same order. The time grows with their bytes.
@@ -147,7 +157,7 @@ impl ContainerPool {
     }
 }
 
-fn refuses_put(map: &IndexMap<Name16, Blob>, name: &Name16, bytes: &[u8]) -> Option<PutError>
+fn refuses_put(map: &IndexMap<Name16, Shared>, name: &Name16, bytes: &[u8]) -> Option<PutError>
     ensures { result ≡ refusal_of_put name.now bytes.now map.now.entries }
 {
     if bytes.len() > SIZE_LIMIT {
@@ -159,21 +169,36 @@ fn refuses_put(map: &IndexMap<Name16, Blob>, name: &Name16, bytes: &[u8]) -> Opt
     None
 }
 
-fn copies(alloc: Global, map: &IndexMap<Name16, Blob>) -> Result<Vec<(Name16, Blob)>, NoMemory>
+fn copies(alloc: Global, map: &IndexMap<Name16, Shared>) -> Result<Vec<(Name16, Shared)>, NoMemory>
     ensures { IfOk result (λ copies. copies.items ≡ map.now.entries) }
 {
     let mut copies = Vec::new(alloc);
     for (name, blob) in map {
-        let bytes = Blob::copy_of(alloc, blob.as_slice())?;
+        let bytes = blob.share()?;
         copies.push((*name, bytes))?;
     }
     Ok(copies)
 }
 
-fn map_of(
+fn shared_all(
     alloc: Global,
     containers: Vec<(Name16, Blob)>,
-) -> Result<IndexMap<Name16, Blob>, NoMemory>
+) -> Result<Vec<(Name16, Shared)>, NoMemory>
+    ensures { IfOk result (λ shared. shared.items ≡ containers.items) }
+{
+    let mut shared = Vec::new(alloc);
+    let mut rest = containers.into_iter();
+    while let Some(container) = rest.next() {
+        let bytes = Shared::copy_of(alloc, container.1.as_slice())?;
+        shared.push((container.0, bytes))?;
+    }
+    Ok(shared)
+}
+
+fn map_of(
+    alloc: Global,
+    containers: Vec<(Name16, Shared)>,
+) -> Result<IndexMap<Name16, Shared>, NoMemory>
     requires { IsDistinct same (keys_of containers.items) }
     ensures { IfOk result (λ map. map.entries ≡ containers.items) }
 {

@@ -113,7 +113,7 @@ pub(crate) fn same_events(a: &BTreeMap<Name16, Event>, b: &BTreeMap<Name16, Even
 }
 
 /// What is first in a composite's queue.
-pub(crate) fn next_subevent(
+pub fn next_subevent(
     map: &BTreeMap<Name16, Event>,
     composite: &Name16,
 ) -> Result<(Name16, EventKind), Reason>

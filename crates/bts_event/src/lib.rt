@@ -51,6 +51,7 @@ mod turning;
 pub use composite::Composite;
 pub use error::PoolError;
 pub use event::{Atomic, Event, Trigger};
+pub use events::next_subevent;
 pub use laws::{
     a_call_makes_one_entry_at_most, calls_keep_the_facts, entries_leave_by_name,
     no_composite_turns_where_a_firing_goes, numbers_are_never_given_again,
@@ -58,3 +59,4 @@ pub use laws::{
 };
 pub use pool::EventPool;
 pub use queue::Entry;
+pub use refusals::{refuses_add, refuses_composite, refuses_define, refuses_delete, refuses_leave};

@@ -16,7 +16,7 @@ pub(crate) const EVENT_LIMIT: usize = 256;
 /// How many sub-events a composite has at most.
 pub(crate) const SUBEVENT_LIMIT: usize = 32;
 
-pub(crate) fn refuses_define(map: &BTreeMap<Name16, Event>, name: &Name16) -> Option<Reason>
+pub fn refuses_define(map: &BTreeMap<Name16, Event>, name: &Name16) -> Option<Reason>
     ensures { result ≡ refusals.define_refusal name.now map.now.entries }
 {
     if map.contains_key(name) {
@@ -66,7 +66,7 @@ fn refuses_subs(map: &BTreeMap<Name16, Event>, subs: &[Name16]) -> Option<Reason
     None
 }
 
-pub(crate) fn refuses_composite(
+pub fn refuses_composite(
     map: &BTreeMap<Name16, Event>,
     name: &Name16,
     subs: &[Name16],
@@ -85,7 +85,7 @@ pub(crate) fn refuses_composite(
     None
 }
 
-pub(crate) fn refuses_add(
+pub fn refuses_add(
     map: &BTreeMap<Name16, Event>,
     composite: &Name16,
     sub: &Name16,
@@ -112,7 +112,7 @@ fn refuses_more(c: &Composite) -> Option<Reason>
     None
 }
 
-pub(crate) fn refuses_leave(
+pub fn refuses_leave(
     map: &BTreeMap<Name16, Event>,
     composite: &Name16,
     sub: &Name16,
@@ -149,7 +149,7 @@ pub(crate) fn refuses_fire(map: &BTreeMap<Name16, Event>, name: &Name16) -> Opti
     }
 }
 
-pub(crate) fn refuses_delete(map: &BTreeMap<Name16, Event>, name: &Name16) -> Option<Reason>
+pub fn refuses_delete(map: &BTreeMap<Name16, Event>, name: &Name16) -> Option<Reason>
     ensures { result ≡ refusals.delete_refusal name.now map.now.entries }
 {
     match map.get(name) {
