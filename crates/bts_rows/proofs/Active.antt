@@ -93,7 +93,7 @@ module _ (frames : List ActivityPath) (t : Activities) (order : IsInOrder t) whe
 
 -- ---- in a process
 
-order_case : (s : Process) (o : Option Activities) → IsSoundUnder s o → IsInOrder (unwrap_or o [])
+pub order_case : (s : Process) (o : Option Activities) → IsSoundUnder s o → IsInOrder (unwrap_or o [])
 unfolding IsStrictlySortedBy
 order_case s None u = tt
 order_case s (Some t) u = u.0.paths_rise

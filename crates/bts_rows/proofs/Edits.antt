@@ -15,6 +15,10 @@ abbrev pub HasOrder : Option Activities → Type 0
 HasOrder None = Unit {0}
 HasOrder (Some t) = IsInOrder t
 
+pub ordered_case : (o : Option Activities) → IsInOrder (unwrap_or o []) → HasOrder o
+ordered_case None h = tt
+ordered_case (Some t) h = h
+
 -- ---- a change at a path, step by step
 
 module _ (q : ActivityPath) (f : Activity → Activity) where

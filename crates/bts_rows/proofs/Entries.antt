@@ -1,6 +1,6 @@
 -- Tests of all entries of a list and of some, against what is read under a name.
 use Rattle.std.proofs.Common.{◌≡◌, ℕ, ◌+◌, Bool, true, false, cond, ◌&&◌, ◌||◌, List, [], ◌∷◌, Option, Some, Less, count_by, is_eq, nat_cmp, refl, sym, ap, ◌∙◌, true≢false, arith}
-use Rattle.std.specs.List.{list_all, list_any, AllByRecursion}
+use Rattle.std.specs.List.{filter, list_all, list_any, AllByRecursion}
 use Rattle.std.specs.Map.{keys_of}
 use Rattle.std.specs.Cmp.Lexicographic.{slice_cmp}
 use Rattle.std.proofs.lemmas.Bool.{and_parts}
@@ -39,7 +39,7 @@ module _ {X : Type 0} where
   apart_case false e x n v o d a k i = i k
 
   -- a name that stands behind isn't the first one
-  apart_first : (e : Name × X) (es : Entries X) (n : Name) (v : X) → AllByRecursion (λ y. slice_cmp nat_cmp e.0 y ≡ Less) (keys_of es) → lookup n es ≡ Some v → same n e.0 ≡ false
+  pub apart_first : (e : Name × X) (es : Entries X) (n : Name) (v : X) → AllByRecursion (λ y. slice_cmp nat_cmp e.0 y ≡ Less) (keys_of es) → lookup n es ≡ Some v → same n e.0 ≡ false
   apart_first e [] n v a h = cc
   apart_first e (x ∷ es) n v a h = apart_case (same n x.0) e x n v (lookup n es) refl (ap is_eq a.0) h (apart_first e es n v a.1)
 
@@ -195,3 +195,13 @@ module _ {X : Type 0} where
 
     pub one_from : (es : Entries X) → IsRising (keys_of es) → HasOne test es → count_by test es ≡ 1
     one_from es s o = sym (counted test es) ∙ tally_one es s o
+
+-- ---- elements that pass
+
+pub all_filtered : {X : Type 0} (P : X → Type 0) (test : X → Bool) (xs : List X) → AllByRecursion P xs → AllByRecursion P (filter test xs)
+all_filtered P test [] h = tt
+all_filtered P test (x ∷ xs) h = by (test x) (all_filtered P test xs h.1)
+  where
+    by : (b : Bool) → AllByRecursion P (filter test xs) → AllByRecursion P (cond b (x ∷ filter test xs) (filter test xs))
+    by true i = (h.0, i)
+    by false i = i

@@ -1,5 +1,5 @@
 -- An activity whose events, timers or containers a command changed fits in its place.
-use Rattle.std.proofs.Common.{◌≡◌, true, false, cond, Option, None, refl, ap, subst}
+use Rattle.std.proofs.Common.{◌≡◌, Bool, true, false, cond, Option, None, refl, ap, subst}
 use Rattle.std.specs.Map.{keys_of}
 use Rattle.bts_names.specs.Names.{Name, same, initial_name}
 use Rattle.bts_names.specs.Named.{lookup}
@@ -47,7 +47,7 @@ module _ (a : Activity) (s : IsSoundActivity a) where
           code = s.code;
           pool = sound;
           timers_rise = s.timers_rise;
-          timer_events = has_timer_events b s.timers_rise sound.events.ordered (fit_keeps a.timers a.pool.events pool.events k fit_now);
+          timer_events = has_timer_events b s.timers_rise sound.events.ordered (fit_keeps is_owned (λ t. refl) a.timers a.pool.events pool.events k fit_now);
           containers = s.containers;
           few_children = s.few_children;
         };
@@ -72,6 +72,29 @@ module _ (a : Activity) (s : IsSoundActivity a) where
           timers_rise = s.timers_rise;
           timer_events = record { one_event_each = e.one_event_each; timer_of_each = e.timer_of_each; unexpired = e.unexpired };
           containers = p;
+          few_children = s.few_children;
+        };
+        name = refl;
+        completion = refl;
+        mode = refl;
+        told = refl;
+        made = refl;
+        events = keeps_same is_childs a.pool.events;
+      }
+
+  -- it is suspended, or not
+  pub fits_suspended : (to : Bool) → let b : Activity = record a { suspended = to } in FitsIn a b
+  fits_suspended to =
+      let b : Activity = record a { suspended = to } in
+      let e = s.timer_events in
+      record {
+        sound = record {
+          status = s.status;
+          code = s.code;
+          pool = s.pool;
+          timers_rise = s.timers_rise;
+          timer_events = record { one_event_each = e.one_event_each; timer_of_each = e.timer_of_each; unexpired = e.unexpired };
+          containers = s.containers;
           few_children = s.few_children;
         };
         name = refl;

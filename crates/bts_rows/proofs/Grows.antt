@@ -3,10 +3,12 @@ use Rattle.std.proofs.Common.{◌≡◌, ℕ, ◌+◌, ◌≤◌, Bool, true, fa
 use Rattle.std.specs.List.{list_all}
 use Rattle.std.proofs.lemmas.Bool.{and_parts, leb-true, le-leb}
 use Rattle.bts_names.specs.Names.{ActivityPath, Name, same, same_exact}
-use Rattle.bts_names.specs.Named.{lookup}
+use Rattle.bts_names.specs.Named.{lookup, without}
+use Rattle.bts_names.specs.declared.state.TimerStatus.TheVariants as timer_status
 use Rattle.bts_container.specs.Containers.{Containers}
 use Rattle.bts_names.specs.declared.state.Status.{Status}
 use Rattle.bts_names.specs.declared.state.Status.TheVariants as status
+use Rattle.bts_timer.specs.Timers.{Timers, with_status}
 use Rattle.bts_tree.specs.declared.activity.Activity.{Activity}
 use Rattle.bts_tree.specs.Activities.{Activities, by_cause, changed_at, completed, completed_one, is_complete, new_root}
 use Rattle.bts_tree.specs.Modes.{Cause}
@@ -34,6 +36,16 @@ pub record Grows (once most : ℕ) (more : Bool) (s t : Process) : Type 0 where
   pub generation : t.generation ≤ s.generation + once
   pub numbers : (n m : ℕ) → n + most ≤ m → numbers_within n s ≡ true → numbers_within m t ≡ true
   pub lone : more ≡ false → is_lone s ≡ true → is_lone t ≡ true
+
+-- ---- timers of an activity that has none
+
+pub none_without : (t : Name) (timers : Timers) → is_empty timers ≡ true → is_empty (without t timers) ≡ true
+none_without t [] h = refl
+none_without t (x ∷ xs) h = cc
+
+pub none_forced : (t : Name) (timers : Timers) → is_empty timers ≡ true → is_empty (with_status timer_status.Forced t timers) ≡ true
+none_forced t [] h = refl
+none_forced t (x ∷ xs) h = cc
 
 -- ---- tests of all activities
 

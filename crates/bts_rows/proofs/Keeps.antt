@@ -30,6 +30,11 @@ pub record Keeps (test : Trigger → Bool) (es fs : Events) : Type 0 where
   pub triggers : (n : Name) → picked test (lookup n fs) ≡ picked test (lookup n es)
   pub unfired : (n : Name) → is_picked test (lookup n es) ≡ true → is_fired_atomic (lookup n es) ≡ false → is_fired_atomic (lookup n fs) ≡ false
 
+pub cleared_bit : (o : Option Event) → is_fired_atomic (option_map (with_bit false) o) ≡ false
+cleared_bit None = refl
+cleared_bit (Some (atomic a)) = refl
+cleared_bit (Some (composite c)) = refl
+
 module _ (test : Trigger → Bool) where
   pub keeps_same : (es : Events) → Keeps test es es
   keeps_same es = record { triggers = λ n. refl; unfired = λ n p u. u }
@@ -66,11 +71,6 @@ module _ (test : Trigger → Bool) where
   picked_bit b None = refl
   picked_bit b (Some (atomic a)) = refl
   picked_bit b (Some (composite c)) = refl
-
-  cleared_bit : (o : Option Event) → is_fired_atomic (option_map (with_bit false) o) ≡ false
-  cleared_bit None = refl
-  cleared_bit (Some (atomic a)) = refl
-  cleared_bit (Some (composite c)) = refl
 
   -- a firing that is taken away
   pub keeps_cleared : (es : Events) (n : Name) → Keeps test es (set_bit es n false)

@@ -14,7 +14,8 @@ use Rattle.bts_event.specs.Sound.{IsSoundPool}
 use Rattle.bts_event.proofs.Accounts.{Gains, gains, nothing, one}
 use Rattle.bts_event.proofs.Settling.{atomic_defined, composite_defined, deleted_at, fired_alone, fired_within}
 use Rattle.bts_event.proofs.SubCalls.{sub_fired}
-use Rattle.bts_rows.specs.ActRows.{fired_if, removed_if}
+use Rattle.bts_rows.specs.Timing.{fired_if, removed_if}
+use Rattle.bts_rows.specs.Signals.{signalled}
 use Rattle.bts_rows.proofs.Fits.{unless_none}
 
 -- the second pool's last number is that of the first, or the next one
@@ -83,3 +84,9 @@ next_added c n p s r = subst (IsNext p) (unless_none (refusals.add_refusal c n p
 
 pub next_left : (c n : Name) (p : Pool) → IsSoundPool p → refusals.leave_refusal c n p.events ≡ None → IsNext p (subevent_removed c n p)
 next_left c n p s r = subst (IsNext p) (unless_none (refusals.leave_refusal c n p.events) _ p r) (next_by_call (calls.remove_subevent c n) p tt s)
+
+-- ---- the signal by which an activity is run
+
+pub next_signal : (event : Option Name) (p : Pool) → IsSoundPool p → IsNext p (signalled event p)
+next_signal None p s = next_by_call calls.start p tt s
+next_signal (Some e) p s = next_fired e p s

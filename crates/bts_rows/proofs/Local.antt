@@ -12,9 +12,9 @@ use Rattle.bts_tree.specs.declared.activity.Activity.{Activity}
 use Rattle.bts_tree.specs.Activities.{Activities, changed_at, completed_at, completed_one, forced, completed, stays_without, within, without_below}
 use Rattle.bts_tree.specs.Paths.{leads_to}
 use Rattle.bts_tree.specs.Processes.{Process, added, before, behind, complete, edited, join, on_tree, part, removed}
-use Rattle.bts_rows.proofs.Order.{is_before, is_behind, leads_on, leads_own, less_from, path_cmp, split_tree, within_not_before, within_not_behind}
+use Rattle.bts_rows.proofs.Parts.{kept_all}
+use Rattle.bts_rows.proofs.Order.{is_before, is_behind, leads_on, leads_own, less_from, path_cmp, split_tree, within_not_before, within_not_behind, before_below, behind_parts}
 use Rattle.bts_rows.proofs.Edits.{HasOrder, changed_back, changed_front, missing}
-use Rattle.bts_rows.proofs.JoinJoin.{before_below, behind_parts, kept_all}
 use Rattle.bts_rows.proofs.OrderKept.{within_behind}
 
 -- what a change of the process does to its activities, and that it leaves those before a path and behind it
@@ -25,7 +25,7 @@ pub record IsLocal (p : ActivityPath) (f : Process → Process) : Type 0 where
 
 -- ---- one change behind another
 
-on_tree_twice : (f g : Activities → Activities) (s : Process) → on_tree f (on_tree g s) ≡ on_tree (λ t. f (g t)) s
+pub on_tree_twice : (f g : Activities → Activities) (s : Process) → on_tree f (on_tree g s) ≡ on_tree (λ t. f (g t)) s
 on_tree_twice f g s = ap (λ t. record s { tree = t }) (by s.tree)
   where
     by : (t : Option Activities) → option_map f (option_map g t) ≡ option_map (λ u. f (g u)) t

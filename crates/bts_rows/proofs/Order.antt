@@ -15,6 +15,7 @@ use Rattle.bts_tree.specs.declared.activity.Activity.{Activity}
 use Rattle.bts_tree.specs.Activities.{Activities, within}
 use Rattle.bts_tree.specs.Paths.{leads_to}
 use Rattle.bts_tree.specs.Processes.{before, behind}
+use Rattle.bts_rows.proofs.TimerEvents.{not_so}
 
 abbrev pub path_cmp : ActivityPath → ActivityPath → Ordering
 path_cmp = slice_cmp nat_cmp
@@ -132,3 +133,33 @@ pub split_tree : (p : ActivityPath) (t : Activities) → IsInOrder t → before 
 split_tree p [] s = refl
 split_tree p (x ∷ t) s =
     split_one p x t (is_before x.0 p) refl (leads_to p x.0) refl (sorted_head path_cmp x.0 (keys_of t) s) (split_tree p t (sorted_tail path_cmp x.0 (keys_of t) s))
+
+-- ---- what stands before and behind a path below another
+
+before_head : (a b c : ℕ) (r s t : Bool) → (r ≡ true → s ≡ true → t ≡ true) → (nat_lt a b || (nat_eq a b && r)) ≡ true → (nat_eq b c && s) ≡ true → (nat_lt a c || (nat_eq a c && t)) ≡ true
+before_head a b c r s t h k l = grind (arith, common_steps)
+
+-- what stands before a path stands before all below it
+pub before_below : (x p q : ActivityPath) → is_before x p ≡ true → leads_to p q ≡ true → is_before x q ≡ true
+before_below [] [] q h k = cc
+before_below (a ∷ x) [] q h k = cc
+before_below x (b ∷ p) [] h k = cc
+before_below [] (b ∷ p) (c ∷ q) h k = refl
+before_below (a ∷ x) (b ∷ p) (c ∷ q) h k =
+    before_cons a c x q ∙ before_head a b c (is_before x p) (leads_to p q) (is_before x q) (before_below x p q) (sym (before_cons a b x p) ∙ h) k
+
+behind_below_head : (a b c : ℕ) (r s t u : Bool) → (r ≡ false → s ≡ false → t ≡ true → u ≡ false) → (nat_lt a b || (nat_eq a b && r)) ≡ false → (nat_eq b a && s) ≡ false → (nat_eq b c && t) ≡ true
+    → (nat_lt a c || (nat_eq a c && u)) ≡ false
+behind_below_head a b c r s t u h k l m = grind (arith, common_steps)
+
+-- what stands behind a path isn't before anything below it
+pub behind_below : (x p q : ActivityPath) → is_before x p ≡ false → leads_to p x ≡ false → leads_to p q ≡ true → is_before x q ≡ false
+behind_below x [] q h k l = cc
+behind_below x (b ∷ p) [] h k l = cc
+behind_below [] (b ∷ p) (c ∷ q) h k l = cc
+behind_below (a ∷ x) (b ∷ p) (c ∷ q) h k l =
+    before_cons a c x q ∙ behind_below_head a b c (is_before x p) (leads_to p x) (leads_to p q) (is_before x q) (behind_below x p q) (sym (before_cons a b x p) ∙ h) k l
+
+-- behind a path and all within it
+pub behind_parts : (x p : ActivityPath) → is_behind x p ≡ true → (is_before x p ≡ false) × (leads_to p x ≡ false)
+behind_parts x p h = let a = and_parts (not (is_before x p)) (not (leads_to p x)) (sym (behind_is x p) ∙ h) in (not_so _ a.0, not_so _ a.1)

@@ -1,4 +1,4 @@
--- The part of a process at a path: what is read of it, and the part of a part.
+-- The part of a process at a path, and what is read of it.
 use Rattle.std.proofs.Common.{◌≡◌, Bool, true, false, cond, ◌&&◌, nat_eq, List, [], ◌∷◌, ◌+◌, Option, Some, None, option_map, unwrap_or, find, length, refl, sym, ap, ◌∙◌, true≢false}
 use Rattle.std.specs.List.{filter}
 use Rattle.std.proofs.lemmas.Bool.{and_parts}
@@ -12,23 +12,22 @@ use Rattle.bts_rows.proofs.Order.{leads_on}
 
 -- ---- lists
 
-module _ {X : Type 0} (f g : X → Bool) where
-  twice_one : (x : X) (ys zs : List X) (b c : Bool) → g x ≡ b → f x ≡ c → (c ≡ true → b ≡ true) → filter f ys ≡ zs → filter f (cond b (x ∷ ys) ys) ≡ cond c (x ∷ zs) zs
-  twice_one x ys zs true true e d h i = rw d (ap (λ t. x ∷ t) i)
-  twice_one x ys zs true false e d h i = rw d i
-  twice_one x ys zs false true e d h i = absurd (true≢false (sym (h refl)))
-  twice_one x ys zs false false e d h i = i
+module _ {X : Type 0} (g f : X → Bool) where
+  kept_one : (x : X) (ys : List X) (b : Bool) → f x ≡ b → (b ≡ true → g x ≡ true) → filter g ys ≡ ys → filter g (cond b (x ∷ ys) ys) ≡ cond b (x ∷ ys) ys
+  kept_one x ys true e h i = rw (h refl) (ap (λ t. x ∷ t) i)
+  kept_one x ys false e h i = i
 
+-- a second filter that passes all that passed the first
+pub kept_all : {X : Type 0} (g f : X → Bool) → ((x : X) → f x ≡ true → g x ≡ true) → (xs : List X) → filter g (filter f xs) ≡ filter f xs
+kept_all g f h [] = refl
+kept_all g f h (x ∷ xs) = kept_one g f x (filter f xs) (f x) refl (h x) (kept_all g f h xs)
+
+module _ {X : Type 0} (f g : X → Bool) where
   found_one : (x : X) (xs : List X) (b c : Bool) → g x ≡ b → f x ≡ c → (c ≡ true → b ≡ true) → find f (filter g xs) ≡ find f xs → find f (cond b (x ∷ filter g xs) (filter g xs)) ≡ cond c (Some x) (find f xs)
   found_one x xs true true e d h i = rw d
   found_one x xs true false e d h i = rw d i
   found_one x xs false false e d h i = i
   found_one x xs false true e d h i = absurd (true≢false (sym (h refl)))
-
--- a filter behind one that it implies
-pub filter_filter : {X : Type 0} (f g : X → Bool) → ((x : X) → f x ≡ true → g x ≡ true) → (xs : List X) → filter f (filter g xs) ≡ filter f xs
-filter_filter f g h [] = refl
-filter_filter f g h (x ∷ xs) = twice_one f g x (filter g xs) (filter f xs) (g x) (f x) refl refl (h x) (filter_filter f g h xs)
 
 -- what is found by a test that implies a filter's
 find-filter : {X : Type 0} (f g : X → Bool) → ((x : X) → f x ≡ true → g x ≡ true) → (xs : List X) → find f (filter g xs) ≡ find f xs
@@ -79,11 +78,3 @@ part_root s = ap (λ t. record s { tree = t }) (go s.tree)
     go : (t : Option Activities) → option_map (within []) t ≡ t
     go None = refl
     go (Some t) = ap Some (within_root t)
-
--- the part of a part
-pub part_part : (p q : ActivityPath) (s : Process) → leads_to p q ≡ true → part q (part p s) ≡ part q s
-part_part p q s h = ap (λ t. record s { tree = t }) (go s.tree)
-  where
-    go : (t : Option Activities) → option_map (within q) (option_map (within p) t) ≡ option_map (within q) t
-    go None = refl
-    go (Some t) = ap Some (filter_filter (λ x. leads_to q x.0) (λ x. leads_to p x.0) (λ x k. leads_on p q x.0 h k) t)

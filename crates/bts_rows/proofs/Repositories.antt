@@ -20,7 +20,7 @@ use Rattle.bts_tree.proofs.New.{new_process_is_sound}
 use Rattle.bts_tree.proofs.Slots.{key_total}
 use Rattle.bts_rows.specs.Bounds.{is_bare_root, is_lone}
 use Rattle.bts_rows.proofs.Bounds.{lone_none, within_none}
-use Rattle.bts_rows.proofs.Entries.{both_so}
+use Rattle.bts_rows.proofs.Entries.{all_filtered, both_so}
 
 -- ---- a test that all processes pass
 
@@ -59,14 +59,6 @@ lone_at key repo h = each_at (λ s. is_lone s ≡ true) key (lone_none key) repo
 
 -- ---- a process is put
 
-filtered_each : {X : Type 0} (P : X → Type 0) (test : X → Bool) (xs : List X) → AllByRecursion P xs → AllByRecursion P (filter test xs)
-filtered_each P test [] h = tt
-filtered_each P test (x ∷ xs) h = by (test x) (filtered_each P test xs h.1)
-  where
-    by : (b : Bool) → AllByRecursion P (filter test xs) → AllByRecursion P (cond b (x ∷ filter test xs) (filter test xs))
-    by true i = (h.0, i)
-    by false i = i
-
 module _ (P : Process → Type 0) (s : Process) where
   placed_each : P s → (repo : Processes) → AllByRecursion P repo → AllByRecursion P (placed_by_key s repo)
   placed_each own [] h = (own, tt)
@@ -82,7 +74,7 @@ module _ (P : Process → Type 0) (s : Process) where
   put_each own repo h = by (nat_eq s.generation 0) own
     where
       by : (b : Bool) → (b ≡ false → P s) → AllByRecursion P (cond b (without_key s.key repo) (placed_by_key s repo))
-      by true own = filtered_each P (λ t. not (same_key s.key t.key)) repo h
+      by true own = all_filtered P (λ t. not (same_key s.key t.key)) repo h
       by false own = placed_each (own refl) repo h
 
 pub put_all : (test : Process → Bool) (s : Process) (repo : Processes) → list_all test repo ≡ true → test s ≡ true → list_all test (put s repo) ≡ true
@@ -123,7 +115,7 @@ filtered_order test [] k = k
 filtered_order test (s ∷ repo) k = by (test s) (filtered_order test repo (ordered_tail s repo k))
   where
     by : (b : Bool) → AreInOrder (filter test repo) → AreInOrder (cond b (s ∷ filter test repo) (filter test repo))
-    by true i = ordered_cons s (filter test repo) (filtered_each (λ t. key_cmp s.key t.key ≡ Less) test repo (ordered_head s repo k)) i
+    by true i = ordered_cons s (filter test repo) (all_filtered (λ t. key_cmp s.key t.key ≡ Less) test repo (ordered_head s repo k)) i
     by false i = i
 
 placed_order : (s : Process) (repo : Processes) → AreInOrder repo → AreInOrder (placed_by_key s repo)

@@ -17,7 +17,7 @@ use Rattle.bts_timer.specs.declared.timer.Timer.{Timer as OneTimer}
 use Rattle.bts_timer.specs.Due.{is_unexpired}
 use Rattle.bts_timer.specs.Timers.{Timers}
 use Rattle.bts_rows.proofs.Entries.{behind_first}
-use Rattle.bts_rows.proofs.Keeps.{Keeps, is_owned, picked}
+use Rattle.bts_rows.proofs.Keeps.{Keeps, picked}
 use Rattle.bts_rows.proofs.TimerEvents.{HasEvent, TimersFit, trigger_at}
 
 -- ---- what fires an event, and what a test picks
@@ -49,13 +49,14 @@ module _ (test : Trigger → Bool) where
 
 -- ---- where the timers stay
 
-pub fit_keeps : (timers : Timers) (es fs : Events) → Keeps is_owned es fs → TimersFit timers es → TimersFit timers fs
-fit_keeps timers es fs k f = record {
-  has_event = λ t x h. let e = f.has_event t x h in record { name = e.name; fires = kept_trigger is_owned es fs k e.name (Timer t) refl e.fires };
-  one_event = λ n m t h g. f.one_event n m t (old_trigger is_owned es fs k n (Timer t) refl h) (old_trigger is_owned es fs k m (Timer t) refl g);
-  has_timer = λ n t h. f.has_timer n t (old_trigger is_owned es fs k n (Timer t) refl h);
-  unexpired = λ n t x h g u. let o = old_trigger is_owned es fs k n (Timer t) refl h in kept_unfired is_owned es fs k n (Timer t) refl o (f.unexpired n t x o g u);
-}
+module _ (test : Trigger → Bool) (picks : (t : Name) → test (Timer t) ≡ true) where
+  pub fit_keeps : (timers : Timers) (es fs : Events) → Keeps test es fs → TimersFit timers es → TimersFit timers fs
+  fit_keeps timers es fs k f = record {
+    has_event = λ t x h. let e = f.has_event t x h in record { name = e.name; fires = kept_trigger test es fs k e.name (Timer t) (picks t) e.fires };
+    one_event = λ n m t h g. f.one_event n m t (old_trigger test es fs k n (Timer t) (picks t) h) (old_trigger test es fs k m (Timer t) (picks t) g);
+    has_timer = λ n t h. f.has_timer n t (old_trigger test es fs k n (Timer t) (picks t) h);
+    unexpired = λ n t x h g u. let o = old_trigger test es fs k n (Timer t) (picks t) h in kept_unfired test es fs k n (Timer t) (picks t) o (f.unexpired n t x o g u);
+  }
 
 -- ---- where one timer changes
 

@@ -8,27 +8,26 @@ use Rattle.bts_names.specs.Named.{lookup, is_there, without}
 use Rattle.bts_names.specs.declared.state.TimerStatus.{TimerStatus}
 use Rattle.bts_names.specs.declared.state.TimerStatus.TheVariants as status
 use Rattle.bts_event.specs.declared.event.Event.{Event}
-use Rattle.bts_event.specs.declared.event.Event.TheVariants.{Atomic as atomic, Composite as composite}
-use Rattle.bts_event.specs.declared.event.Trigger.{Trigger}
 use Rattle.bts_event.specs.declared.event.Trigger.TheVariants.{Timer}
 use Rattle.bts_event.specs.Calls as calls
-use Rattle.bts_event.specs.Events.{Events, event_of, holder, is_composite, is_event_of, is_fired_atomic, new_atomic}
-use Rattle.bts_event.specs.Pool.{defined, deleted, fired, parted, removed, removed_at}
-use Rattle.bts_event.specs.Refusals.{define_refusal, fire_refusal_of}
+use Rattle.bts_event.specs.Events.{Events, event_of, is_event_of, is_fired_atomic, new_atomic}
+use Rattle.bts_event.specs.Pool.{defined, deleted, fired, removed, removed_at}
+use Rattle.bts_event.specs.Refusals.{define_refusal}
 use Rattle.bts_event.proofs.Accounts.{after_sound}
-use Rattle.bts_event.proofs.Orders.{IsRising, lookup-in_order, lookup-without}
+use Rattle.bts_event.proofs.Orders.{IsRising}
 use Rattle.bts_event.proofs.Same.{same_laws, same_refl}
 use Rattle.bts_timer.specs.declared.timer.Timer.{Timer as OneTimer}
 use Rattle.bts_timer.specs.Due.{is_unexpired, is_unexpired_status}
 use Rattle.bts_timer.specs.Timers.{Timers, set_where_there, started, with_status}
 use Rattle.bts_tree.specs.declared.activity.Activity.{Activity}
 use Rattle.bts_tree.specs.Soundness.{IsSoundActivity}
-use Rattle.bts_rows.specs.ActRows.{fired_if, removed_if, with_forced, with_timer, without_timer}
-use Rattle.bts_rows.proofs.Keeps.{Keeps, is_owned, is_picked, settled-events}
+use Rattle.bts_rows.specs.Timing.{fired_if, removed_if, with_forced, with_timer, without_timer}
+use Rattle.bts_rows.proofs.Keeps.{Keeps, is_owned, is_picked}
 use Rattle.bts_rows.proofs.InPlace.{FitsIn}
 use Rattle.bts_rows.proofs.Ordered as ordered
-use Rattle.bts_rows.proofs.PoolKeeps.{define_free, keeps_defined, keeps_deleted, keeps_firing, parted_keeps, parted_rising, picked-firing}
-use Rattle.bts_rows.proofs.TimerCalls.{first_at, first_none, old_trigger, others, picked_from, trigger_from}
+use Rattle.bts_rows.proofs.OwnedEvents.{gone, may_fire, not_composite, read_new, read_own, unpicked_from}
+use Rattle.bts_rows.proofs.PoolKeeps.{define_free, keeps_defined, keeps_deleted, keeps_firing, picked-firing}
+use Rattle.bts_rows.proofs.TimerCalls.{first_at, first_none, others, picked_from, trigger_from}
 use Rattle.bts_rows.proofs.TimerEvents.{HasEvent, fires_from, found_from, trigger_at}
 use Rattle.bts_rows.proofs.Fits.{fit_now, fits_timers, sound_define, sound_fire}
 
@@ -41,18 +40,12 @@ module _ (t e : Name) (due : ℕ) (a : Activity) (s : IsSoundActivity a) (no_tim
   abbrev behind : Events
   behind = (defined e (new_atomic (Timer t)) a.pool).events
 
-  read_new : (n : Name) → lookup n behind ≡ cond (same e n) (Some (new_atomic (Timer t))) (lookup n a.pool.events)
-  read_new n = ap (lookup n) (settled-events a.pool.events _) ∙ lookup-in_order a.pool.events e (new_atomic (Timer t)) n
-
-  read_own : lookup e behind ≡ Some (new_atomic (Timer t))
-  read_own = read_new e ∙ ap (λ b. cond b (Some (new_atomic (Timer t))) (lookup e a.pool.events)) (same_refl e)
-
   new_only : (b : Bool) (n : Name) → same e n ≡ b → trigger_at (cond b (Some (new_atomic (Timer t))) (lookup n a.pool.events)) ≡ Some (Timer t) → n ≡ e
   new_only true n d h = sym (same_exact e n d)
   new_only false n d h = absurd (true≢false (sym ((fit_now a s).has_timer n t h) ∙ no_timer))
 
   is_new : (n : Name) → trigger_at (lookup n behind) ≡ Some (Timer t) → n ≡ e
-  is_new n h = new_only (same e n) n refl (sym (ap trigger_at (read_new n)) ∙ h)
+  is_new n h = new_only (same e n) n refl (sym (ap trigger_at (read_new e (Timer t) a.pool n)) ∙ h)
 
   new_unpicked : is_picked (others t) (Some (new_atomic (Timer t))) ≡ false
   new_unpicked = ap (λ b. is_some (cond (not b) (Some (Timer t)) None)) (same_refl t)
@@ -64,18 +57,13 @@ module _ (t e : Name) (due : ℕ) (a : Activity) (s : IsSoundActivity a) (no_tim
       (λ u. ordered.lookup-in_order a.timers t new u)
       (keeps_defined (others t) e (new_atomic (Timer t)) a.pool (define_free e a.pool.events no_event) new_unpicked)
       (record {
-        has_event = λ x h. record { name = e; fires = ap trigger_at read_own };
+        has_event = λ x h. record { name = e; fires = ap trigger_at (read_own e (Timer t) a.pool) };
         one_event = λ n m h g. is_new n h ∙ sym (is_new m g);
         has_timer = λ n h. refl;
-        unexpired = λ n x h g u. ap (λ m. is_fired_atomic (lookup m behind)) (is_new n h) ∙ ap is_fired_atomic read_own;
+        unexpired = λ n x h g u. ap (λ m. is_fired_atomic (lookup m behind)) (is_new n h) ∙ ap is_fired_atomic (read_own e (Timer t) a.pool);
       })
 
 -- ---- the event of a timer
-
-unpicked_from : (test : Trigger → Bool) (o : Option Event) (t : Trigger) → trigger_at o ≡ Some t → test t ≡ false → is_picked test o ≡ false
-unpicked_from test None t h p = refl
-unpicked_from test (Some (composite c)) t h p = refl
-unpicked_from test (Some (atomic a)) t h p = let e : a.trigger ≡ t = cc in ap (λ x. is_some (cond (test x) (Some x) None)) e ∙ ap (λ b. is_some (cond b (Some t) None)) p
 
 -- the event that a timer fires, as it stands in its pool
 pub record TimersEvent (t : Name) (a : Activity) : Type 0 where
@@ -93,16 +81,6 @@ event_case (Some n) t a e s h =
     let f = first_at (is_event_of t) a.pool.events n s e in
     record { name = n; value = f.value; is_its = e; found = f.found; fires = ap trigger_at f.found ∙ fires_from f.value t f.passed }
 
-not_composite : (o : Option Event) (t : Trigger) → trigger_at o ≡ Some t → is_composite o ≡ false
-not_composite None t h = refl
-not_composite (Some (atomic a)) t h = refl
-not_composite (Some (composite c)) t h = cc
-
-may_fire : (o : Option Event) (t : Trigger) → trigger_at o ≡ Some t → is_fired_atomic o ≡ false → fire_refusal_of o ≡ None
-may_fire None t h u = cc
-may_fire (Some (composite c)) t h u = cc
-may_fire (Some (atomic a)) t h u = rw u
-
 module _ (t : Name) (x : OneTimer) (a : Activity) (s : IsSoundActivity a) (there : lookup t a.timers ≡ Some x) where
   event : TimersEvent t a
   event = event_case (event_of t a.pool.events) t a refl (s.pool).events.ordered ((fit_now a s).has_event t x there)
@@ -112,30 +90,14 @@ module _ (t : Name) (x : OneTimer) (a : Activity) (s : IsSoundActivity a) (there
 
   -- ---- a timer and its event go
 
-  abbrev left : Events
-  left = parted event.name (holder a.pool.events event.name) a.pool.events
-
-  left_keeps : Keeps is_owned a.pool.events left
-  left_keeps = parted_keeps is_owned event.name (holder a.pool.events event.name) a.pool.events
-
-  left_rising : IsRising (keys_of left)
-  left_rising = parted_rising is_owned event.name (holder a.pool.events event.name) a.pool.events (s.pool).events.ordered
-
-  read_left : (n : Name) → lookup n (deleted event.name a.pool).events ≡ cond (same event.name n) None (lookup n left)
-  read_left n = ap (lookup n) (settled-events a.pool.events _) ∙ lookup-without left event.name n left_rising
-
-  none_left : (b : Bool) (n : Name) → same event.name n ≡ b → trigger_at (cond b None (lookup n left)) ≡ Some (Timer t) → ⊥
-  none_left true n d h = cc
-  none_left false n d h =
-      let old = old_trigger is_owned a.pool.events left left_keeps n (Timer t) refl h in
-      let q : n ≡ event.name = (fit_now a s).one_event n event.name t old event.fires in
-      true≢false (sym (ap (same event.name) q ∙ same_refl event.name) ∙ d)
-
-  gone : (n : Name) → trigger_at (lookup n (deleted event.name a.pool).events) ≡ Some (Timer t) → ⊥
-  gone n h = none_left (same event.name n) n refl (sym (ap trigger_at (read_left n)) ∙ h)
+  only : (n : Name) → trigger_at (lookup n a.pool.events) ≡ Some (Timer t) → n ≡ event.name
+  only n h = (fit_now a s).one_event n event.name t h event.fires
 
   removed_is : removed event.name a.pool ≡ deleted event.name a.pool
   removed_is = ap (λ o. removed_at o event.name a.pool) event.found
+
+  gone_away : (n : Name) → trigger_at (lookup n (removed event.name a.pool).events) ≡ Some (Timer t) → ⊥
+  gone_away n h = gone event.name (Timer t) a.pool s.pool refl only n (sym (ap (λ p. trigger_at (lookup n p.events)) removed_is) ∙ h)
 
   fits_removed : let b : Activity = record a { pool = removed event.name a.pool; timers = without t a.timers } in FitsIn a b
   fits_removed =
@@ -146,8 +108,8 @@ module _ (t : Name) (x : OneTimer) (a : Activity) (s : IsSoundActivity a) (there
       (subst (λ p. Keeps (others t) a.pool.events p.events) (sym removed_is) (keeps_deleted (others t) event.name a.pool (s.pool).events.ordered own_unpicked))
       (record {
         has_event = λ y h. cc;
-        one_event = λ n m h g. absurd (gone n (sym (ap (λ p. trigger_at (lookup n p.events)) removed_is) ∙ h));
-        has_timer = λ n h. absurd (gone n (sym (ap (λ p. trigger_at (lookup n p.events)) removed_is) ∙ h));
+        one_event = λ n m h g. absurd (gone_away n h);
+        has_timer = λ n h. absurd (gone_away n h);
         unexpired = λ n y h g u. cc;
       })
 

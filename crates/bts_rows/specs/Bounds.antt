@@ -8,8 +8,8 @@ use Rattle.bts_tree.specs.declared.activity.Activity.{Activity}
 use Rattle.bts_tree.specs.Processes.{Process, activities}
 use Rattle.bts_tree.specs.Scopes.{is_empty}
 use Rattle.bts_tree.specs.Soundness.{is_root}
-use Rattle.bts_rows.specs.declared.held.Held.{Held}
-use Rattle.bts_rows.specs.declared.held.Held.TheVariants as held
+use Rattle.bts_rows.specs.declared.places.Held.{Held}
+use Rattle.bts_rows.specs.declared.places.Held.TheVariants as held
 
 -- what bounds the generation of a request's process, where this bounded it before the request acquired anything: it
 -- defines the process at its first acquisition, if ever

@@ -9,14 +9,8 @@ use Rattle.bts_command.specs.declared.command.Command.{Command}
 use Rattle.bts_command.specs.declared.command.Command.TheVariants as command
 use Rattle.bts_tree.specs.Activities.{new_root, is_at_rest}
 use Rattle.bts_tree.specs.Processes.{Process, activity_at, has_tree, planted, purged}
-use Rattle.bts_rows.specs.declared.held.Held.{Held}
-use Rattle.bts_rows.specs.declared.held.Held.TheVariants as held
-use Rattle.bts_rows.specs.Targets.{Here, in_activity, in_request}
-
--- only in a request's first frame: the rest of the row at what it has acquired
-abbrev pub at_request : Here → (Held → Answer (Process × Held)) → Answer (Process × Held)
-at_request (in_request h) rest = rest h
-at_request (in_activity p) rest = refused resp.Invreq reason.Place
+use Rattle.bts_rows.specs.declared.places.Held.{Held}
+use Rattle.bts_rows.specs.declared.places.Held.TheVariants as held
 
 -- whether the request acquired anything before
 abbrev pub has_acquired : Held → Bool
@@ -27,31 +21,27 @@ abbrev pub holds_process : Held → Bool
 holds_process held.Process = true
 holds_process _ = false
 
-abbrev pub define_process_row : Here → Process → Name → Name → Answer (Process × Held)
-define_process_row here s transid program =
-    at_request here λ h.
+abbrev pub define_process_row : Held → Process → Name → Name → Answer (Process × Held)
+define_process_row h s transid program =
     refuse resp.Invreq because reason.Acquired when has_acquired h otherwise
     refuse resp.Processerr because reason.Taken when has_tree s otherwise
     done value.Nothing (planted (new_root transid program) s, held.Process)
 
-abbrev pub acquire_process_row : Here → Process → Answer (Process × Held)
-acquire_process_row here s =
-    at_request here λ h.
+abbrev pub acquire_process_row : Held → Process → Answer (Process × Held)
+acquire_process_row h s =
     refuse resp.Invreq because reason.Acquired when has_acquired h otherwise
     refuse resp.Processerr because reason.Missing when not (has_tree s) otherwise
     done value.Nothing (s, held.Process)
 
-abbrev pub acquire_activity_row : Here → Process → ActivityPath → Answer (Process × Held)
-acquire_activity_row here s path =
-    at_request here λ h.
+abbrev pub acquire_activity_row : Held → Process → ActivityPath → Answer (Process × Held)
+acquire_activity_row h s path =
     refuse resp.Invreq because reason.Acquired when has_acquired h otherwise
     refuse resp.Processerr because reason.Missing when not (has_tree s) otherwise
     refuse resp.Activityerr because reason.Missing when not (is_some (activity_at path s)) otherwise
     done value.Nothing (s, held.Activity path)
 
-abbrev pub purge_row : Here → Process → Answer (Process × Held)
-purge_row here s =
-    at_request here λ h.
+abbrev pub purge_row : Held → Process → Answer (Process × Held)
+purge_row h s =
     refuse resp.Invreq because reason.NotAcquired when not (holds_process h) otherwise
     at_some resp.Processerr reason.Missing (activity_at [] s) λ root.
     refuse resp.Processerr because reason.Mode when not (is_at_rest root) otherwise
@@ -60,9 +50,9 @@ purge_row here s =
 -- ---- the table
 
 -- commands 1 to 4
-unfoldable pub request_row : Here → Process → Command → Answer (Process × Held)
-request_row here s (command.DefineProcess transid program) = define_process_row here s transid program
-request_row here s command.AcquireProcess = acquire_process_row here s
-request_row here s (command.AcquireActivity path) = acquire_activity_row here s path
-request_row here s command.PurgeProcess = purge_row here s
-request_row here s _ = refused resp.Invreq reason.Place
+unfoldable pub request_row : Held → Process → Command → Answer (Process × Held)
+request_row h s (command.DefineProcess transid program) = define_process_row h s transid program
+request_row h s command.AcquireProcess = acquire_process_row h s
+request_row h s (command.AcquireActivity path) = acquire_activity_row h s path
+request_row h s command.PurgeProcess = purge_row h s
+request_row h s _ = refused resp.Invreq reason.Place

@@ -1,6 +1,6 @@
 use Rattle.bts_rows.proofs.laws.replies_say_why.Goals as goal
 use Rattle.bts_rows.specs.Rows.{answer}
-use Rattle.bts_rows.proofs.ProperRows.{proper, why_answer}
+use Rattle.bts_rows.proofs.Replies.{proper, why_answer}
 
 pub returns : goal.returns
-returns c = λ here held depth now s command. proper (answer here held depth now s command) (why_answer here held depth now s command)
+returns c = λ h held depth now s command. proper (answer h held depth now s command) (why_answer h held depth now s command)

@@ -1,0 +1,55 @@
+-- Processes whose containers are short, and what is then read of them.
+use Rattle.std.proofs.Common.{◌≡◌, ℕ, ◌≤◌, Bool, true, false, cond, length, List, [], ◌∷◌, Option, Some, None, unwrap_or, ap, subst}
+use Rattle.std.specs.List.{AllByRecursion}
+use Rattle.std.proofs.lemmas.Bool.{ltb-false}
+use Rattle.bts_names.specs.Names.{Name, ActivityPath, same}
+use Rattle.bts_names.specs.Named.{lookup}
+use Rattle.bts_container.specs.Containers.{Containers, is_long, size_limit}
+use Rattle.bts_tree.specs.Activities.{Activities}
+use Rattle.bts_tree.specs.Paths.{leads_to}
+use Rattle.bts_tree.specs.Processes.{Process, activities, part}
+use Rattle.bts_tree.specs.Soundness.{IsSoundActivity, IsSoundInFrames, IsSoundUnder}
+use Rattle.bts_rows.proofs.Entries.{all_filtered}
+
+abbrev pub AreShort : ℕ → Containers → Type 0
+AreShort m containers = AllByRecursion (λ c. length c.1 ≤ m) containers
+
+pub record HoldsShort (m : ℕ) (s : Process) : Type 0 where
+  pub own : AreShort m s.containers
+  pub each : AllByRecursion (λ x. AreShort m x.1.containers) (activities s)
+
+pool_short : (containers : Containers) → AllByRecursion (λ c. is_long c.1 ≡ false) containers → AreShort size_limit containers
+pool_short [] h = tt
+pool_short (c ∷ cs) h = (ltb-false size_limit (length c.1) h.0, pool_short cs h.1)
+
+all_short : (tree : Activities) → AllByRecursion (λ x. IsSoundActivity x.1) tree
+    → AllByRecursion (λ x. AreShort size_limit x.1.containers) tree
+all_short [] h = tt
+all_short (x ∷ xs) h = (pool_short x.1.containers h.0.containers.short, all_short xs h.1)
+
+-- a sound process is one
+pub sound_is_short : (frames : List ActivityPath) (s : Process) → IsSoundInFrames frames s → HoldsShort size_limit s
+sound_is_short frames s sound = record { own = pool_short s.containers sound.containers.short; each = go s.tree sound.tree }
+  where
+    go : (tree : Option Activities) → IsSoundUnder s tree
+        → AllByRecursion (λ x. AreShort size_limit x.1.containers) (activities (record s { tree = tree }))
+    go None h = tt
+    go (Some tree) h = all_short tree h.0.activities
+
+-- and so is a part of it
+pub part_short : (m : ℕ) (p : ActivityPath) (s : Process) → HoldsShort m s → HoldsShort m (part p s)
+part_short m p s h = record { own = h.own; each = go s.tree h.each }
+  where
+    go : (tree : Option Activities) → AllByRecursion (λ x. AreShort m x.1.containers) (activities (record s { tree = tree }))
+        → AllByRecursion (λ x. AreShort m x.1.containers) (activities (part p (record s { tree = tree })))
+    go None k = tt
+    go (Some tree) k = all_filtered (λ x. AreShort m x.1.containers) (λ x. leads_to p x.0) tree k
+
+module _ {X : Type 0} (Q : X → Type 0) where
+  found_case : (b : Bool) (v x : X) (o : Option X) → Q v → (o ≡ Some x → Q x) → cond b (Some v) o ≡ Some x → Q x
+  found_case true v x o h k e = subst Q (ap (λ (y : Option X). unwrap_or y v) e) h
+  found_case false v x o h k e = k e
+
+  pub found : (n : Name) (x : X) (xs : List (Name × X)) → AllByRecursion (λ y. Q y.1) xs → lookup n xs ≡ Some x → Q x
+  found n x [] h e = cc
+  found n x (y ∷ ys) h e = found_case (same n y.0) y.1 x (lookup n ys) h.0 (found n x ys h.1) e
