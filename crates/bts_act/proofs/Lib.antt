@@ -1,9 +1,11 @@
 pub mod Undone
 pub mod Atomics
+pub mod Allowed
 pub mod Lifts
-pub mod OwnRows
-pub mod Stores
-pub mod GivenNames
-pub mod Forced
+pub mod Saving
+pub mod Found
+pub mod Unread
+pub mod FamilyRows
+pub mod Children
 pub mod Kept
 pub mod Late

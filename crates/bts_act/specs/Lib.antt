@@ -1,6 +1,5 @@
 pub mod Does
 pub mod Early
-pub mod OnActivity
-pub mod OnContainers
 pub mod Replies
-pub mod Places
+pub mod Built
+pub mod Children

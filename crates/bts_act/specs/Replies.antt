@@ -9,7 +9,6 @@ use Rattle.bts_names.specs.declared.reply.Value.TheVariants as value
 use Rattle.bts_names.specs.declared.reply.Reply.{Reply}
 use Rattle.bts_names.specs.declared.memory.NoMemory.{NoMemory}
 use Rattle.bts_event.specs.declared.error.PoolError.{PoolError}
-use Rattle.bts_event.specs.declared.error.PoolError.TheVariants as pool_error
 
 -- a command that was done answers its value, and a refused one its reason
 abbrev pub normal : Value → Reply
@@ -18,8 +17,7 @@ normal v = record { resp = resp.Normal; reason = reason.None; value = v }
 abbrev pub refusal : Resp → Reason → Reply
 refusal r why = record { resp = r; reason = why; value = value.Nothing }
 
--- what a command on events answers to a call of the pool
+-- what a command on events answers to a call of the pool that isn't refused
 abbrev pub reply_to : Result (Unit {0}) PoolError → Result Reply NoMemory
 reply_to (Ok x) = Ok (normal value.Nothing)
-reply_to (Err (pool_error.Refused why)) = Ok (refusal resp.Eventerr why)
-reply_to (Err pool_error.NoMemory) = Err (record {})
+reply_to (Err why) = Err (record {})

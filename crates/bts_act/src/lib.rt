@@ -1,22 +1,28 @@
-//! The commands on containers, events and timers, as an activity does them.
+//! What a command does to the thing that it is about, in whatever frame.
 //!
-//! Each row of the table of commands is done once, on what it changes: containers, or one activity. A row that
-//! wants memory for two things takes both before it changes either, or gives the first one back.
+//! `finding` finds that thing, once a kind, and `commands` does the row on it. The code of a row stands on the activity
+//! or on the containers alone: it is refused, or answered where it only reads, on what is read; then the path is saved;
+//! then it is changed. So want of memory never stands in front of a refusal. A row that wants memory for two things
+//! takes both before it changes either, or gives the first one back.
 #![tactic(auto)]
 
+mod activities;
 mod commands;
 mod containers;
 mod early;
 mod events;
-mod places;
+mod families;
+mod finding;
 mod replies;
+mod running;
 mod timers;
 
-pub use commands::{act, delete_in, get_in, put_in};
+pub use commands::{act, perform};
 pub use early::{a_sound_process_has_none_early, none_is_early};
-pub use places::Store;
-pub use replies::{Refusal, normal_reply, refused};
-pub use timers::{fire_unfired, force_timer};
+pub use replies::{normal_reply, refused};
+pub use timers::fire_unfired;
 
+#[cfg(test)]
+mod child_tests;
 #[cfg(test)]
 mod tests;

@@ -1,27 +1,12 @@
 // Replies.
-ghost use Rattle.std.specs.Prelude.{◌≡◌};
+ghost use Rattle.std.specs.Prelude.{◌≡◌, None};
+ghost use Rattle.std.specs.Option.{option_map};
+ghost use Rattle.bts_names.specs.declared.reply.Resp.TheVariants.{Eventerr};
+ghost use Rattle.bts_event.specs.Refusals.{Answers};
 ghost use Rattle.bts_act.specs.Replies.{normal, refusal, reply_to};
 
 use bts_event::PoolError;
 use bts_names::{NoMemory, Reason, Reply, Resp, Value};
-use thiserror::Error;
-
-/// Why a command is refused.
-#[derive(Clone, Copy, Debug, Error)]
-#[error("refused")]
-pub struct Refusal {
-    pub resp: Resp,
-    pub reason: Reason,
-}
-
-impl Refusal {
-    /// The reply of a command that is refused so.
-    pub fn reply(self) -> Reply
-        ensures { result ≡ refusal self.resp self.reason }
-    {
-        refused(self.resp, self.reason)
-    }
-}
 
 /// The reply of a command that was done.
 pub fn normal_reply(value: Value) -> Reply
@@ -45,13 +30,24 @@ pub fn refused(resp: Resp, reason: Reason) -> Reply
     }
 }
 
-/// What a command on events answers to a call of the pool.
+/// The reply of a command on events, where there is a reason against it.
+pub(crate) fn refused_event(reason: Option<Reason>) -> Option<Reply>
+    ensures { result ≡ option_map (refusal Eventerr) reason }
+{
+    match reason {
+        Some(reason) => Some(refused(Resp::Eventerr, reason)),
+        None => None,
+    }
+}
+
+/// What a command on events answers to a call of the pool that isn't refused.
 pub(crate) fn reply_to_pool(called: Result<(), PoolError>) -> Result<Reply, NoMemory>
+    requires { Answers called None }
     ensures { result ≡ reply_to called }
 {
     match called {
         Ok(()) => Ok(normal_reply(Value::Nothing)),
-        Err(PoolError::Refused(reason)) => Ok(refused(Resp::Eventerr, reason)),
         Err(PoolError::NoMemory) => Err(NoMemory),
+        Err(PoolError::Refused(_)) => unreachable!(),
     }
 }

@@ -46,17 +46,17 @@ enum Want {
     Refused(Resp, Reason),
 }
 
-fn named(text: &str) -> Name16 {
+pub(crate) fn named(text: &str) -> Name16 {
     Name16::read(text.as_bytes()).unwrap_or(Name16::root())
 }
 
-fn is_free(name: Name16) -> bool
+pub(crate) fn is_free(name: Name16) -> bool
     ensures { IsTrue result → IsTrue (not (is_systems name)) }
 {
     name != Name16::initial() && name != Name16::root()
 }
 
-fn root_scope(alloc: Global) -> Option<Scope> {
+pub(crate) fn root_scope(alloc: Global) -> Option<Scope> {
     let key = Key {
         ptype: ProcType::read(b"ORDERS".as_slice()).ok()?,
         pname: ProcName::read(b"P7".as_slice()).ok()?,
@@ -73,7 +73,7 @@ fn root_scope(alloc: Global) -> Option<Scope> {
 }
 
 /// Whether every last entry number is below the last of all.
-fn numbered(scope: &Scope) -> bool
+pub(crate) fn numbered(scope: &Scope) -> bool
     ensures { IsTrue result → IsTrue (numbers_below (2 ^ 64 - 1) scope.now.process) }
 {
     match scope.tree() {

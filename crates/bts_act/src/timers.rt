@@ -1,15 +1,16 @@
 // The commands on timers, as they are done on one activity.
-ghost use Rattle.std.specs.Prelude.{◌≡◌, ◌<◌, ◌-◌, ◌^◌, false, true, None, IsSome, OnOk, OnErr};
+ghost use Rattle.std.specs.Prelude.{◌≡◌, ◌<◌, ◌-◌, ◌^◌, false, true, None, IsSome, Some, Ok, OnOk, OnErr, cond};
 ghost use Rattle.std.specs.Option.{unwrap_or};
-ghost use Rattle.bts_names.specs.Answer.{reply_of, left_by};
-ghost use Rattle.bts_names.specs.Names.{same, initial_name};
+ghost use Rattle.bts_names.specs.Names.{Name, same, initial_name};
 ghost use Rattle.bts_names.specs.Named.{lookup};
+ghost use Rattle.bts_event.specs.Events.{event_of};
 ghost use Rattle.bts_event.specs.Pool.{fired};
 ghost use Rattle.bts_event.specs.Refusals.{define_refusal, fire_refusal};
-ghost use Rattle.bts_rows.specs.ActRows as rows;
-ghost use Rattle.bts_act.specs.Does.{Does};
+ghost use Rattle.bts_timer.specs.Timers.{force_refusal};
+ghost use Rattle.bts_rows.specs.OnActivity as on;
+ghost use Rattle.bts_rows.specs.Timing as timing;
+ghost use Rattle.bts_act.specs.Does.{Does, Reads, is_done};
 ghost use Rattle.bts_act.specs.Early.{has_none_early};
-ghost use Rattle.bts_act.specs.OnActivity as on;
 
 use crate::replies::{normal_reply, refused};
 use bts_command::Due;
@@ -22,12 +23,37 @@ const EVENT_LIMIT: u32 = 256;
 
 /// When a timer is due that is defined now; None where that is past the last moment.
 fn due_moment(now: Moment, due: Due) -> Option<Moment>
-    ensures { result ≡ on.due_moment now due }
+    ensures { result ≡ cond (timing.is_past_last now due) None (Some (timing.due_at now due)) }
 {
     match due {
         Due::After(seconds) => now.plus(seconds),
         Due::At(moment) => Some(moment),
     }
+}
+
+pub(crate) fn refuses_define_timer(
+    activity: &Activity,
+    timer: Name16,
+    event: Option<Name16>,
+    due: Due,
+    now: Moment,
+) -> Option<Reply>
+    ensures { Reads false (Ok result) activity.now (on.define_timer now timer event due activity.now) }
+{
+    let event = event.unwrap_or(timer);
+    if activity.timers.get(timer).is_some() {
+        return Some(refused(Resp::Timererr, Reason::Taken));
+    }
+    if activity.pool.kind(event).is_some() {
+        return Some(refused(Resp::Eventerr, Reason::Taken));
+    }
+    if due_moment(now, due).is_none() {
+        return Some(refused(Resp::Invreq, Reason::Range));
+    }
+    if activity.pool.count() >= EVENT_LIMIT {
+        return Some(refused(Resp::Eventerr, Reason::Limit));
+    }
+    None
 }
 
 pub(crate) fn define_timer(
@@ -37,22 +63,14 @@ pub(crate) fn define_timer(
     due: Due,
     now: Moment,
 ) -> Result<Reply, NoMemory>
-    requires { same (unwrap_or event timer) initial_name ≡ false }
+    requires named { same (unwrap_or event timer) initial_name ≡ false }
+    requires allowed { is_done (on.define_timer now timer event due activity.old) ≡ true }
     ensures { Does result activity.old activity.new (on.define_timer now timer event due activity.old) }
 {
     let event = event.unwrap_or(timer);
-    if activity.timers.get(timer).is_some() {
-        return Ok(refused(Resp::Timererr, Reason::Taken));
-    }
-    if activity.pool.kind(event).is_some() {
-        return Ok(refused(Resp::Eventerr, Reason::Taken));
-    }
     let Some(moment) = due_moment(now, due) else {
-        return Ok(refused(Resp::Invreq, Reason::Range));
+        unreachable!()
     };
-    if activity.pool.count() >= EVENT_LIMIT {
-        return Ok(refused(Resp::Eventerr, Reason::Limit));
-    }
     start_timer(activity, timer, event, moment)?;
     Ok(normal_reply(Value::Nothing))
 }
@@ -67,7 +85,7 @@ fn start_timer(
     requires named { same event initial_name ≡ false }
     requires free { lookup timer activity.old.timers ≡ None }
     requires room { define_refusal event activity.old.pool.events ≡ None }
-    ensures ok { OnOk result (activity.new ≡ rows.with_timer timer event due activity.old) }
+    ensures ok { OnOk result (activity.new ≡ timing.with_timer timer event due activity.old) }
     ensures err { OnErr result (activity.new ≡ activity.old) }
 {
     if activity.timers.define(timer, due).is_err() {
@@ -80,24 +98,43 @@ fn start_timer(
     Ok(())
 }
 
-/// FORCE TIMER of a timer of an activity.
-pub fn force_timer(activity: &mut Activity, timer: Name16) -> Result<Reply, NoMemory>
+pub(crate) fn refuses_force_timer(activity: &Activity, timer: Name16) -> Option<Reply>
+    ensures { Reads false (Ok result) activity.now (on.force_timer timer activity.now) }
+{
+    let Some(found) = activity.timers.get(timer) else {
+        return Some(refused(Resp::Timererr, Reason::Missing));
+    };
+    if !found.is_unexpired() {
+        return Some(refused(Resp::Timererr, Reason::Ended));
+    }
+    None
+}
+
+pub(crate) fn force_timer(activity: &mut Activity, timer: Name16) -> Result<Reply, NoMemory>
     requires below { activity.old.pool.last < 2 ^ 64 - 1 }
     requires late { has_none_early activity.old ≡ true }
+    requires allowed { force_refusal timer activity.old.timers ≡ None }
     ensures { Does result activity.old activity.new (on.force_timer timer activity.old) }
 {
     activity.pool.facts();
-    let Some(found) = activity.timers.get(timer) else {
-        return Ok(refused(Resp::Timererr, Reason::Missing));
-    };
-    if !found.is_unexpired() {
-        return Ok(refused(Resp::Timererr, Reason::Ended));
-    }
-    if let Some(event) = activity.pool.event_of(timer) {
-        fire_unfired(&mut activity.pool, event)?;
-    }
+    fire_event_of(&mut activity.pool, timer)?;
     let _ = activity.timers.force(timer);
     Ok(normal_reply(Value::Nothing))
+}
+
+/// Fires the event of a timer, where there is one; it may be fired.
+fn fire_event_of(pool: &mut EventPool, timer: Name16) -> Result<(), NoMemory>
+    requires below { pool.old.last < 2 ^ 64 - 1 }
+    requires unfired { (event : Name) → event_of timer pool.old.events ≡ Some event
+        → fire_refusal event pool.old.events ≡ None }
+    ensures ok { OnOk result
+        (pool.new ≡ timing.fired_if (event_of timer pool.old.events) pool.old) }
+    ensures err { OnErr result (pool.new ≡ pool.old) }
+{
+    if let Some(event) = pool.event_of(timer) {
+        fire_unfired(pool, event)?;
+    }
+    Ok(())
 }
 
 /// Fires an event that may be fired: it fails only for want of memory.
@@ -114,12 +151,24 @@ pub fn fire_unfired(pool: &mut EventPool, event: Name16) -> Result<(), NoMemory>
     }
 }
 
+/// The reply of CHECK TIMER and DELETE TIMER where there is no such timer.
+pub(crate) fn refuses_timer(activity: &Activity, timer: Name16) -> Option<Reply>
+    ensures check { Reads false (Ok result) activity.now (on.check_timer timer activity.now) }
+    ensures delete { Reads false (Ok result) activity.now (on.delete_timer timer activity.now) }
+{
+    if activity.timers.get(timer).is_none() {
+        return Some(refused(Resp::Timererr, Reason::Missing));
+    }
+    None
+}
+
 pub(crate) fn check_timer(activity: &mut Activity, timer: Name16) -> Result<Reply, NoMemory>
-    requires { activity.old.pool.last < 2 ^ 64 - 1 }
+    requires below { activity.old.pool.last < 2 ^ 64 - 1 }
+    requires allowed { is_done (on.check_timer timer activity.old) ≡ true }
     ensures { Does result activity.old activity.new (on.check_timer timer activity.old) }
 {
     let Some(found) = activity.timers.get(timer) else {
-        return Ok(refused(Resp::Timererr, Reason::Missing));
+        unreachable!()
     };
     if !found.is_unexpired() {
         drop_timer(activity, timer)?;
@@ -128,12 +177,10 @@ pub(crate) fn check_timer(activity: &mut Activity, timer: Name16) -> Result<Repl
 }
 
 pub(crate) fn delete_timer(activity: &mut Activity, timer: Name16) -> Result<Reply, NoMemory>
-    requires { activity.old.pool.last < 2 ^ 64 - 1 }
+    requires below { activity.old.pool.last < 2 ^ 64 - 1 }
+    requires allowed { is_done (on.delete_timer timer activity.old) ≡ true }
     ensures { Does result activity.old activity.new (on.delete_timer timer activity.old) }
 {
-    if activity.timers.get(timer).is_none() {
-        return Ok(refused(Resp::Timererr, Reason::Missing));
-    }
     drop_timer(activity, timer)?;
     Ok(normal_reply(Value::Nothing))
 }
@@ -142,7 +189,7 @@ pub(crate) fn delete_timer(activity: &mut Activity, timer: Name16) -> Result<Rep
 fn drop_timer(activity: &mut Activity, timer: Name16) -> Result<(), NoMemory>
     requires there { IsSome (lookup timer activity.old.timers) }
     requires below { activity.old.pool.last < 2 ^ 64 - 1 }
-    ensures ok { OnOk result (activity.new ≡ rows.without_timer timer activity.old) }
+    ensures ok { OnOk result (activity.new ≡ timing.without_timer timer activity.old) }
     ensures err { OnErr result (activity.new ≡ activity.old) }
 {
     activity.pool.facts();

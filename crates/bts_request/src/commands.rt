@@ -1,21 +1,18 @@
 // The commands in a request's first frame.
-ghost use Rattle.std.specs.Prelude.{◌≡◌, ◌<◌, ◌-◌, ◌^◌, [], IsTrue};
+ghost use Rattle.std.specs.Prelude.{◌≡◌, ◌<◌, ◌-◌, ◌^◌, [], IsTrue, false};
 ghost use Rattle.bts_tree.specs.Scopes.{holding};
 ghost use Rattle.bts_tree.specs.Soundness.{IsSoundInFrames, numbers_below};
 ghost use Rattle.bts_command.specs.Given.{IsGiven};
+ghost use Rattle.bts_rows.specs.Families.{resets};
 ghost use Rattle.bts_rows.specs.Rows.{request_in};
 ghost use Rattle.bts_act.specs.Does.{Does};
 ghost use Rattle.bts_act.specs.Early.{none_early};
-ghost use Rattle.bts_request.specs.OnRequest as on;
-ghost use Rattle.bts_request.specs.Today.{is_of_request};
 
 use crate::acquiring::{acquire_activity, acquire_process, define_process, purge};
-use crate::containers::{delete_container, get_container, put_container};
-use crate::running::{cancel, check, force, run, suspend};
-use bts_act::refused;
+use bts_act::perform;
 use bts_command::Command;
-use bts_names::{Moment, NoMemory, Reason, Reply, Resp};
-use bts_rows::Held;
+use bts_names::{Moment, NoMemory, Reply};
+use bts_rows::{Held, Here};
 use bts_tree::Scope;
 use std::alloc::Global;
 
@@ -34,18 +31,18 @@ pub fn request(
     requires numbers { IsTrue (numbers_below (2 ^ 64 - 1) scope.old.process) }
     requires generation { scope.old.process.generation < 2 ^ 64 - 1 }
     requires late { IsTrue (none_early scope.old.process) }
-    requires today { IsTrue (is_of_request command.now) }
+    requires today { resets command.now ≡ false }
     requires given { IsGiven command.now }
     ensures row { Does result (scope.old.process, held.old) (scope.new.process, held.new)
         (request_in held.old depth moment scope.old.process command.now) }
     ensures rest { scope.new ≡ holding scope.new.process scope.old }
     ensures kept { IsSoundInFrames [] scope.old.process → IsSoundInFrames [] scope.new.process }
 {
-    perform(scope, alloc, held, depth, moment, command)
+    do_command(scope, alloc, held, depth, moment, command)
 }
 
 /// The same, but for soundness.
-fn perform(
+fn do_command(
     scope: &mut Scope,
     alloc: Global,
     held: &mut Held,
@@ -56,7 +53,8 @@ fn perform(
     requires numbers { IsTrue (numbers_below (2 ^ 64 - 1) scope.old.process) }
     requires generation { scope.old.process.generation < 2 ^ 64 - 1 }
     requires late { IsTrue (none_early scope.old.process) }
-    requires today { IsTrue (is_of_request command.now) }
+    requires today { resets command.now ≡ false }
+    requires given { IsGiven command.now }
     ensures row { Does result (scope.old.process, held.old) (scope.new.process, held.new)
         (request_in held.old depth moment scope.old.process command.now) }
     ensures rest { scope.new ≡ holding scope.new.process scope.old }
@@ -67,51 +65,7 @@ fn perform(
         }
         Command::AcquireProcess => Ok(acquire_process(scope, held)),
         Command::AcquireActivity { path } => Ok(acquire_activity(scope, held, *path)),
-        Command::PurgeProcess => Ok(purge(scope, held)),
-        _ => on_acquired(scope, alloc, *held, depth, command),
-    }
-}
-
-/// A command on what the request has acquired, which acquires nothing.
-fn on_acquired(
-    scope: &mut Scope,
-    alloc: Global,
-    held: Held,
-    depth: u32,
-    command: &Command,
-) -> Result<Reply, NoMemory>
-    requires numbers { IsTrue (numbers_below (2 ^ 64 - 1) scope.old.process) }
-    requires late { IsTrue (none_early scope.old.process) }
-    requires today { IsTrue (is_of_request command.now) }
-    ensures row { Does result scope.old.process scope.new.process
-        (on.row held depth scope.old.process command.now) }
-    ensures rest { scope.new ≡ holding scope.new.process scope.old }
-{
-    scope.facts();
-    match command {
-        Command::PutContainer {
-            container,
-            spot,
-            from,
-        } => put_container(scope, alloc, held, *container, spot, from.as_slice()),
-        Command::GetContainer { container, spot } => {
-            get_container(scope, alloc, held, *container, spot)
-        }
-        Command::DeleteContainer { container, spot } => {
-            Ok(delete_container(scope, held, *container, spot))
-        }
-        Command::Run {
-            target,
-            synchronous,
-            input,
-        } => run(scope, held, depth, target, *synchronous, *input),
-        Command::Link { target, input } => run(scope, held, depth, target, true, *input),
-        Command::Check { target } => Ok(check(scope, held, target)),
-        Command::Cancel { target } => Ok(cancel(scope, held, target)),
-        Command::Suspend { target } => Ok(suspend(scope, held, target, true)),
-        Command::Resume { target } => Ok(suspend(scope, held, target, false)),
-        Command::ForceTimer { timer, target } => force(scope, held, *timer, target),
-        // the others stand in the frames of activities, or name a child there
-        _ => Ok(refused(Resp::Invreq, Reason::Place)),
+        Command::PurgeProcess => purge(scope, held),
+        _ => perform(scope, alloc, &Here::Request(*held), depth, moment, command),
     }
 }

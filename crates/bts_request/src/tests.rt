@@ -1,9 +1,9 @@
 // What no clause says: that commands succeed where there is memory, and in the tables' order.
-ghost use Rattle.std.specs.Prelude.{◌≡◌, ◌&&◌, ◌-◌, ◌^◌, IsTrue, IfSome, not, nat_lt};
+ghost use Rattle.std.specs.Prelude.{◌≡◌, ◌&&◌, ◌-◌, ◌^◌, IsTrue, IfSome, false, not, nat_lt};
 ghost use Rattle.std.specs.List.{list_all, list_any};
 ghost use Rattle.bts_tree.specs.Soundness.{numbers_below};
 ghost use Rattle.bts_command.specs.Given.{IsGiven, is_systems, names_of_spot, names_of_target};
-ghost use Rattle.bts_request.specs.Today.{is_of_request};
+ghost use Rattle.bts_rows.specs.Families.{resets};
 
 use crate::request;
 use bts_act::none_is_early;
@@ -108,7 +108,7 @@ fn all_numbered(activities: &BTreeMap<Path, Activity>) -> bool
 /// The command of a step that is one.
 fn command_of(alloc: Global, step: Step) -> Option<Command>
     ensures given { IfSome result (λ c. IsGiven c) }
-    ensures today { IfSome result (λ c. IsTrue (is_of_request c)) }
+    ensures today { IfSome result (λ c. resets c ≡ false) }
 {
     match step {
         Step::Define => define(),
@@ -128,7 +128,7 @@ fn command_of(alloc: Global, step: Step) -> Option<Command>
 /// The same for commands on an activity.
 fn command_on_activity(step: Step) -> Option<Command>
     ensures given { IfSome result (λ c. IsGiven c) }
-    ensures today { IfSome result (λ c. IsTrue (is_of_request c)) }
+    ensures today { IfSome result (λ c. resets c ≡ false) }
 {
     match step {
         Step::Run => Some(run(false)),
@@ -146,7 +146,7 @@ fn command_on_activity(step: Step) -> Option<Command>
 
 fn define() -> Option<Command>
     ensures given { IfSome result (λ c. IsGiven c) }
-    ensures today { IfSome result (λ c. IsTrue (is_of_request c)) }
+    ensures today { IfSome result (λ c. resets c ≡ false) }
 {
     let transid = Transid::read(b"ORD1".as_slice()).ok()?;
     let program = ProgName::read(b"ANY".as_slice()).ok()?;
@@ -155,7 +155,7 @@ fn define() -> Option<Command>
 
 fn acquire_child() -> Option<Command>
     ensures given { IfSome result (λ c. IsGiven c) }
-    ensures today { IfSome result (λ c. IsTrue (is_of_request c)) }
+    ensures today { IfSome result (λ c. resets c ≡ false) }
 {
     let path = Path::root().child(7)?;
     Some(Command::AcquireActivity { path })
@@ -196,7 +196,7 @@ fn spot_of(at: At) -> Option<Spot>
 
 fn put(alloc: Global, at: At, bytes: &[u8]) -> Option<Command>
     ensures given { IfSome result (λ c. IsGiven c) }
-    ensures today { IfSome result (λ c. IsTrue (is_of_request c)) }
+    ensures today { IfSome result (λ c. resets c ≡ false) }
 {
     let container = named("C");
     if !is_free(container) {
@@ -214,7 +214,7 @@ fn put(alloc: Global, at: At, bytes: &[u8]) -> Option<Command>
 /// A PUT of one byte more than a container holds.
 fn put_long(alloc: Global, at: At) -> Option<Command>
     ensures given { IfSome result (λ c. IsGiven c) }
-    ensures today { IfSome result (λ c. IsTrue (is_of_request c)) }
+    ensures today { IfSome result (λ c. resets c ≡ false) }
 {
     let mut bytes = Vec::new(alloc);
     for _ in 0..LONG {
@@ -225,7 +225,7 @@ fn put_long(alloc: Global, at: At) -> Option<Command>
 
 fn get(at: At) -> Option<Command>
     ensures given { IfSome result (λ c. IsGiven c) }
-    ensures today { IfSome result (λ c. IsTrue (is_of_request c)) }
+    ensures today { IfSome result (λ c. resets c ≡ false) }
 {
     let container = named("C");
     if !is_free(container) {
@@ -237,7 +237,7 @@ fn get(at: At) -> Option<Command>
 
 fn drop_container(at: At) -> Option<Command>
     ensures given { IfSome result (λ c. IsGiven c) }
-    ensures today { IfSome result (λ c. IsTrue (is_of_request c)) }
+    ensures today { IfSome result (λ c. resets c ≡ false) }
 {
     let container = named("C");
     if !is_free(container) {
@@ -250,7 +250,7 @@ fn drop_container(at: At) -> Option<Command>
 /// RUN of the root.
 fn run(synchronous: bool) -> Command
     ensures given { IsGiven result }
-    ensures today { IsTrue (is_of_request result) }
+    ensures today { resets result ≡ false }
 {
     Command::Run {
         target: Target::AcqProcess,
@@ -261,7 +261,7 @@ fn run(synchronous: bool) -> Command
 
 fn run_with(event: Name16) -> Option<Command>
     ensures given { IfSome result (λ c. IsGiven c) }
-    ensures today { IfSome result (λ c. IsTrue (is_of_request c)) }
+    ensures today { IfSome result (λ c. resets c ≡ false) }
 {
     if !is_free(event) {
         return None;
@@ -275,7 +275,7 @@ fn run_with(event: Name16) -> Option<Command>
 
 fn link(at: At) -> Option<Command>
     ensures given { IfSome result (λ c. IsGiven c) }
-    ensures today { IfSome result (λ c. IsTrue (is_of_request c)) }
+    ensures today { IfSome result (λ c. resets c ≡ false) }
 {
     let target = target_of(at)?;
     Some(Command::Link {
@@ -286,7 +286,7 @@ fn link(at: At) -> Option<Command>
 
 fn check(at: At) -> Option<Command>
     ensures given { IfSome result (λ c. IsGiven c) }
-    ensures today { IfSome result (λ c. IsTrue (is_of_request c)) }
+    ensures today { IfSome result (λ c. resets c ≡ false) }
 {
     let target = target_of(at)?;
     Some(Command::Check { target })
@@ -294,7 +294,7 @@ fn check(at: At) -> Option<Command>
 
 fn suspend(at: At) -> Option<Command>
     ensures given { IfSome result (λ c. IsGiven c) }
-    ensures today { IfSome result (λ c. IsTrue (is_of_request c)) }
+    ensures today { IfSome result (λ c. resets c ≡ false) }
 {
     let target = target_of(at)?;
     Some(Command::Suspend { target })
@@ -302,7 +302,7 @@ fn suspend(at: At) -> Option<Command>
 
 fn resume(at: At) -> Option<Command>
     ensures given { IfSome result (λ c. IsGiven c) }
-    ensures today { IfSome result (λ c. IsTrue (is_of_request c)) }
+    ensures today { IfSome result (λ c. resets c ≡ false) }
 {
     let target = target_of(at)?;
     Some(Command::Resume { target })
@@ -310,7 +310,7 @@ fn resume(at: At) -> Option<Command>
 
 fn force(at: At) -> Option<Command>
     ensures given { IfSome result (λ c. IsGiven c) }
-    ensures today { IfSome result (λ c. IsTrue (is_of_request c)) }
+    ensures today { IfSome result (λ c. resets c ≡ false) }
 {
     let timer = named("T");
     if !is_free(timer) {
@@ -325,7 +325,7 @@ fn force(at: At) -> Option<Command>
 
 fn cancel(at: At) -> Option<Command>
     ensures given { IfSome result (λ c. IsGiven c) }
-    ensures today { IfSome result (λ c. IsTrue (is_of_request c)) }
+    ensures today { IfSome result (λ c. resets c ≡ false) }
 {
     let target = target_of(at)?;
     Some(Command::Cancel { target })

@@ -1,26 +1,18 @@
-use Rattle.std.proofs.Common.{Ok, sym, subst}
-use Rattle.bts_rows.specs.ActRows as rows
-use Rattle.bts_rows.specs.Targets.{in_activity}
-use Rattle.bts_act.specs.Does.{Does}
+use Rattle.std.proofs.Common.{sym, ap, ◌∙◌}
+use Rattle.bts_rows.specs.Places.{find}
+use Rattle.bts_act.proofs.Found.{found_does, unfound_does}
 use Rattle.bts_act.proofs.commands.perform.Goals as goal
 
-pub returns-in-PutContainer-clause-row : goal.returns-in-PutContainer-clause-row
-unfolding rows.act_row
-returns-in-PutContainer-clause-row c =
-    subst (λ x. Does c.put.result c.args.scope.now.process c.put.new.scope.process (rows.act_row (in_activity c.args.at.now) c.args.moment c.args.scope.now.process x)) (sym c.in-PutContainer.is)
-    (rw (← c.as_slice.ensures) c.put.ensures.row)
+pub returns-in-Ok-clause-row : goal.returns-in-Ok-clause-row
+returns-in-Ok-clause-row c =
+    let s = c.args.scope.now.process in
+    let h = c.args.here.now in
+    found_does h c.args.depth c.args.moment s c.args.command.now c.in-Ok.thing c.change.result c.change.new.scope.process
+    (ap (find h s) (sym c.about.ensures) ∙ sym c.find.ensures ∙ c.in-Ok.is) c.change.ensures.row
 
-pub returns-in-GetContainer-clause-row : goal.returns-in-GetContainer-clause-row
-unfolding rows.act_row
-returns-in-GetContainer-clause-row c =
-    subst (λ x. Does c.get.result c.args.scope.now.process c.args.scope.now.process (rows.act_row (in_activity c.args.at.now) c.args.moment c.args.scope.now.process x)) (sym c.in-GetContainer.is) c.get.ensures
-
-pub returns-in-DeleteContainer-clause-row : goal.returns-in-DeleteContainer-clause-row
-unfolding rows.act_row
-returns-in-DeleteContainer-clause-row c =
-    subst (λ x. Does (Ok c.delete.result) c.args.scope.now.process c.delete.new.scope.process (rows.act_row (in_activity c.args.at.now) c.args.moment c.args.scope.now.process x)) (sym c.in-DeleteContainer.is) c.delete.ensures.row
-
-pub returns-in-ForceTimer-clause-row : goal.returns-in-ForceTimer-clause-row
-unfolding rows.act_row
-returns-in-ForceTimer-clause-row c =
-    subst (λ x. Does c.force.result c.args.scope.now.process c.force.new.scope.process (rows.act_row (in_activity c.args.at.now) c.args.moment c.args.scope.now.process x)) (sym c.in-ForceTimer.is) c.force.ensures.row
+pub returns-in-Err-clause-row : goal.returns-in-Err-clause-row
+returns-in-Err-clause-row c =
+    let s = c.args.scope.now.process in
+    let h = c.args.here.now in
+    unfound_does h c.args.depth c.args.moment s c.args.command.now c.in-Err.why c.reply_of.result
+    (ap (find h s) (sym c.about.ensures) ∙ sym c.find.ensures ∙ c.in-Err.is) c.reply_of.ensures

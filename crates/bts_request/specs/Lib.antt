@@ -1,4 +1,0 @@
-pub mod Today
-pub mod Places
-pub mod OnActivity
-pub mod OnRequest
