@@ -12,9 +12,9 @@ use Rattle.bts_command.specs.declared.ended.End.{End}
 use Rattle.bts_command.specs.declared.ended.End.TheVariants.{Commit, Rollback, Abend}
 use Rattle.bts_tree.specs.declared.activity.Activity.{Activity}
 use Rattle.bts_tree.specs.Processes.{Process, activity_at}
-use Rattle.bts_rows.specs.declared.held.Held.{Held}
+use Rattle.bts_rows.specs.declared.places.Held.{Held}
 use Rattle.bts_rows.specs.Rows.{answer}
-use Rattle.bts_rows.specs.Targets.{Here}
+use Rattle.bts_rows.specs.declared.places.Here.{Here}
 use Rattle.bts_unit.specs.Calls.{answered, call, called_in, opened_by, opens_on, says_ran, stepped}
 use Rattle.bts_unit.specs.Ends.{abended_whole, leaving_of, left, returned, returned_at, rolled_back}
 use Rattle.bts_unit.specs.Frames.{OpenFrame, UnitOfWork, here}

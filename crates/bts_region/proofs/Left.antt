@@ -8,10 +8,10 @@ use Rattle.bts_command.specs.declared.ended.End.{End}
 use Rattle.bts_command.specs.declared.ended.UnitKind.{UnitKind}
 use Rattle.bts_command.specs.declared.ended.UnitKind.TheVariants as unit
 use Rattle.bts_rows.specs.Bounds.{is_lone, raised_by}
-use Rattle.bts_rows.specs.declared.held.Held.{Held}
-use Rattle.bts_rows.specs.declared.held.Held.TheVariants as held
+use Rattle.bts_rows.specs.declared.places.Held.{Held}
+use Rattle.bts_rows.specs.declared.places.Held.TheVariants as held
 use Rattle.bts_rows.proofs.Bounds.{within_more}
-use Rattle.bts_rows.proofs.GrowthRows.{raised_once}
+use Rattle.bts_rows.proofs.Acquiring.{raised_once}
 use Rattle.bts_tree.specs.Processes.{Process}
 use Rattle.bts_tree.specs.Soundness.{IsSoundInFrames, is_within}
 use Rattle.bts_unit.specs.Calls.{commands_of, run, unit_behind}

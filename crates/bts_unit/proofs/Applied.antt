@@ -14,11 +14,11 @@ use Rattle.bts_command.specs.declared.ended.UnitKind.TheVariants as unit
 use Rattle.bts_names.specs.Names.{ActivityPath}
 use Rattle.bts_names.specs.declared.key.Key.{Key}
 use Rattle.bts_names.proofs.Sameness.{keys_exact}
-use Rattle.bts_rows.specs.declared.held.Held.{Held}
-use Rattle.bts_rows.specs.declared.held.Held.TheVariants as held
+use Rattle.bts_rows.specs.declared.places.Held.{Held}
+use Rattle.bts_rows.specs.declared.places.Held.TheVariants as held
 use Rattle.bts_rows.specs.Bounds.{raised_by}
 use Rattle.bts_rows.proofs.Bounds.{within_more}
-use Rattle.bts_rows.proofs.GrowthRows.{raised_once}
+use Rattle.bts_rows.proofs.Acquiring.{raised_once}
 use Rattle.bts_rows.proofs.Repositories.{put_all, sound_at, within_at}
 use Rattle.bts_tree.specs.Processes.{Process}
 use Rattle.bts_tree.specs.Repositories.{Processes, process_at, put, same_key}

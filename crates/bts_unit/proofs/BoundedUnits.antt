@@ -8,13 +8,14 @@ use Rattle.bts_command.specs.declared.command.Command.{Command}
 use Rattle.bts_command.specs.declared.ended.UnitKind.{UnitKind}
 use Rattle.bts_tree.specs.Processes.{Process}
 use Rattle.bts_tree.specs.Soundness.{IsSoundInFrames, is_within, numbers_below}
-use Rattle.bts_rows.specs.declared.held.Held.{Held}
-use Rattle.bts_rows.specs.declared.held.Held.TheVariants as held
+use Rattle.bts_rows.specs.declared.places.Held.{Held}
+use Rattle.bts_rows.specs.declared.places.Held.TheVariants as held
 use Rattle.bts_rows.specs.Bounds.{is_lone, raised_by}
 use Rattle.bts_rows.specs.Rows.{request_in}
 use Rattle.bts_command.specs.Given.{IsGiven}
+use Rattle.bts_rows.proofs.Acquiring.{raised_once}
 use Rattle.bts_rows.proofs.Bounds.{lone_by_cause, lone_complete, within_act, within_below, within_by_cause, within_complete, within_generation, within_more, within_request}
-use Rattle.bts_rows.proofs.GrowthRows.{act_at_grows, raised_once, request_in_grows}
+use Rattle.bts_rows.proofs.Tables.{act_at_grows, request_in_grows}
 use Rattle.bts_unit.specs.Calls.{call, run}
 use Rattle.bts_unit.specs.Ends.{abended_whole}
 use Rattle.bts_unit.specs.Frames.{OpenFrame, UnitOfWork, path_of, start}
@@ -39,11 +40,11 @@ module _ (g : ℕ) where
     later = λ n h s k. within_more (raised_by h g) n (raised_by h g) (n + 1) s k (omega arith) (omega arith);
     turns = λ n h p why s. within_by_cause p s why None (raised_by h g) n;
     completes = λ n h p status code s. within_complete p s status code (raised_by h g) n;
-    acts = λ n h p now s c a sound. within_act (p ∷ []) s sound p now (raised_by h g) n c;
-    requests = λ n h now s c a l sound. within_request [] s sound h 1 now g n c l;
-    acquires = λ n h now s c before a l sound w k.
+    acts = λ n h p now s c a sound. within_act (p ∷ []) s sound p 1 now (raised_by h g) n c;
+    requests = λ n h now s c a sound. within_request [] s sound h 1 now g n c;
+    acquires = λ n h now s c before a sound w k.
         let x = left_by (s, h) (request_in h 1 now s c) in
-        within_more (raised_by h g) n (raised_by x.1 g) n before k ((request_in_grows [] s sound h 1 now c l).raised g) (omega arith);
+        within_more (raised_by h g) n (raised_by x.1 g) n before k ((request_in_grows [] s sound h 1 now c).raised g) (omega arith);
   }
 
   module _ (n : ℕ) where
@@ -83,8 +84,8 @@ nothing_rises = record {
   turns = λ n h p why s k. k;
   completes = λ n h p status code s k. k;
   acts = λ n h p now s c a sound k. k;
-  requests = λ n h now s c a l sound k. absurd a;
-  acquires = λ n h now s c before a l sound w k. absurd a;
+  requests = λ n h now s c a sound k. absurd a;
+  acquires = λ n h now s c before a sound w k. absurd a;
 }
 
 -- ---- a lone root
@@ -100,9 +101,9 @@ lone_rises = record {
   later = λ n h s k. k;
   turns = λ n h p why s. lone_by_cause p s why None;
   completes = λ n h p status code s. lone_complete p s status code;
-  acts = λ n h p now s c none sound k. (act_at_grows (p ∷ []) s sound p now c).lone none k;
-  requests = λ n h now s c none l sound k. (request_in_grows [] s sound h 1 now c l).process.lone refl k;
-  acquires = λ n h now s c before none l sound w k. k;
+  acts = λ n h p now s c none sound k. (act_at_grows (p ∷ []) s sound p 1 now c).lone none k;
+  requests = λ n h now s c none sound k. (request_in_grows [] s sound h 1 now c).process.lone refl k;
+  acquires = λ n h now s c before none sound w k. k;
 }
 
 pub starts_lone : (kind : UnitKind) (moment : ℕ) (s : Process) → may_begin kind s ≡ true → IsSoundInFrames [] s → is_lone s ≡ true → IsSoundLone (start kind moment s)
@@ -126,9 +127,9 @@ module _ (key : Key) where
     later = λ n h s k. k;
     turns = λ n h p why s k. k;
     completes = λ n h p status code s k. k;
-    acts = λ n h p now s c a sound k. (act_at_grows (p ∷ []) s sound p now c).key ∙ k;
-    requests = λ n h now s c a l sound k. (request_in_grows [] s sound h 1 now c l).process.key ∙ k;
-    acquires = λ n h now s c before a l sound w k. k;
+    acts = λ n h p now s c a sound k. (act_at_grows (p ∷ []) s sound p 1 now c).key ∙ k;
+    requests = λ n h now s c a sound k. (request_in_grows [] s sound h 1 now c).process.key ∙ k;
+    acquires = λ n h now s c before a sound w k. k;
   }
 
 -- ---- the process that a unit leaves behind commands of one frame

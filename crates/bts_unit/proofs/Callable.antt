@@ -1,12 +1,12 @@
 -- What a sound unit needs for its next call, and what the call shows.
-use Rattle.std.proofs.Common.{◌≡◌, ℕ, ◌+◌, ◌-◌, ◌<◌, ◌≤◌, ◌^◌, true, List, [], ◌∷◌, ◌++◌, length, length-append, Some, is_none, option_map, unwrap_or, ap, ◌∙◌, refl, arith}
+use Rattle.std.proofs.Common.{◌≡◌, ℕ, ◌+◌, ◌-◌, ◌<◌, ◌^◌, true, List, [], ◌∷◌, ◌++◌, length, length-append, Some, is_none, option_map, unwrap_or, ap, ◌∙◌, refl, arith}
 use Rattle.std.specs.List.{slice_get}
 use Rattle.bts_names.specs.declared.reply.Reply.{Reply}
 use Rattle.bts_command.specs.Given.{IsGiven}
 use Rattle.bts_command.specs.declared.command.Call.{Call}
 use Rattle.bts_command.specs.declared.command.Command.{Command}
 use Rattle.bts_tree.specs.Soundness.{numbers_below}
-use Rattle.bts_rows.proofs.GrowthRows.{raised_once}
+use Rattle.bts_rows.proofs.Acquiring.{raised_once}
 use Rattle.bts_act.specs.Early.{none_early}
 use Rattle.bts_unit.specs.Calls.{call}
 use Rattle.bts_unit.specs.Frames.{UnitOfWork, is_there_at}

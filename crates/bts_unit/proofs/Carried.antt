@@ -1,5 +1,5 @@
 -- What single commands keep, and the openings and the ends of frames, a unit with one frame keeps.
-use Rattle.std.proofs.Common.{◌≡◌, ℕ, ◌+◌, ◌≤◌, Bool, true, false, not, ◌&&◌, ◌||◌, List, [], ◌∷◌, ◌++◌, length, Option, Some, None, is_none, nat_le, option_map, option_to_list, unwrap_or, refl, sym, ap, subst, arith}
+use Rattle.std.proofs.Common.{◌≡◌, ℕ, ◌+◌, ◌≤◌, Bool, true, false, not, ◌&&◌, ◌||◌, List, [], ◌∷◌, ◌++◌, length, Option, Some, None, is_none, option_map, option_to_list, unwrap_or, refl, sym, ap, subst, arith}
 use Rattle.std.specs.List.{AllByRecursion}
 use Rattle.std.proofs.lemmas.Bool.{and_parts}
 use Rattle.std.proofs.lemmas.List.{length_push}
@@ -7,10 +7,7 @@ use Rattle.bts_names.specs.Answer.{Answer, refused, done, left_by, mapped}
 use Rattle.bts_names.specs.Names.{Name, ActivityPath}
 use Rattle.bts_names.specs.declared.reply.Leaving.{Leaving}
 use Rattle.bts_names.specs.declared.reply.Leaving.TheVariants as leaving
-use Rattle.bts_names.specs.declared.reply.Resp.TheVariants as resp
-use Rattle.bts_names.specs.declared.reply.Reason.TheVariants as reason
 use Rattle.bts_names.specs.declared.state.Status.TheVariants as status
-use Rattle.bts_command.specs.Numbers.{command_number}
 use Rattle.bts_command.specs.declared.command.Call.{Call}
 use Rattle.bts_command.specs.declared.command.Command.{Command}
 use Rattle.bts_command.specs.declared.command.Command.TheVariants as command
@@ -22,19 +19,19 @@ use Rattle.bts_tree.specs.declared.activity.Activity.{Activity}
 use Rattle.bts_tree.specs.Activities.{by_cause, has_entries, is_dormant, is_initial, is_ready}
 use Rattle.bts_tree.specs.Modes.{waits}
 use Rattle.bts_tree.specs.Processes.{Process, activity_at, complete, edited}
-use Rattle.bts_rows.specs.declared.held.Held.{Held}
-use Rattle.bts_rows.specs.declared.held.Held.TheVariants as held
-use Rattle.bts_rows.specs.FamilyRows.{resets}
+use Rattle.bts_rows.specs.declared.places.Held.{Held}
+use Rattle.bts_rows.specs.declared.places.Held.TheVariants as held
+use Rattle.bts_rows.specs.Families.{resets}
 use Rattle.bts_rows.specs.Rows.{act_at, answer, request_in}
-use Rattle.bts_rows.specs.Targets.{Here}
+use Rattle.bts_rows.specs.declared.places.Here.{Here}
 use Rattle.bts_unit.specs.Calls.{answered, call, called_by, called_in, done_in, is_retrieval, opened_by, opens_on, run, says_ran, stepped, with_call}
 use Rattle.bts_unit.specs.Ends.{abended, abended_whole, closed, completed_by_abend, first_of, left, leaving_of, returned, returned_at, rolled_back}
 use Rattle.bts_unit.specs.Frames.{OpenFrame, UnitOfWork, activated, first_frame, here, open_paths, opened_at, path_of, start}
-use Rattle.bts_unit.specs.OneFrame.{StandsIn, is_of_one_frame, is_of_requests, may_begin, names_acquired}
+use Rattle.bts_unit.specs.OneFrame.{StandsIn, is_of_one_frame, may_begin}
 use Rattle.bts_unit.specs.Replays.{top_path}
 use Rattle.bts_unit.specs.Soundness.{AreKept, Holds, IsKept, may_open, paths_of}
 use Rattle.bts_unit.specs.Standings.{Standing, behind, moved}
-use Rattle.bts_unit.proofs.InFrames.{of_activity, out_of_frame}
+use Rattle.bts_unit.proofs.InFrames.{none_resets}
 use Rattle.bts_unit.proofs.Shown.{behind_process, opens_none}
 
 -- what is said of processes in open frames, with a number that may be that of the commands so far, and with what is held:
@@ -46,7 +43,7 @@ pub record Carries (P : ℕ → Held → List ActivityPath → Process → Type 
   pub rests : (n : ℕ) (h : Held) (p : ActivityPath) (s : Process) → P n h (p ∷ []) s → P n h [] (edited p (by_cause waits None) s)
   pub finishes : (n : ℕ) (h : Held) (p : ActivityPath) (s : Process) → P n h (p ∷ []) s → P n h [] (complete p status.Normal None s)
   pub abends : (n : ℕ) (h : Held) (p : ActivityPath) (code : Name) (s : Process) → P n h [] s → may_open (Some p) s ≡ true → P n h [] (complete p status.Abend (Some code) s)
-  pub acts : (n : ℕ) (h : Held) (p : ActivityPath) (now : ℕ) (s : Process) (c : Command) → Asked (Some p) c → P n h (p ∷ []) s → P (n + 1) h (p ∷ []) (left_by s (act_at p now s c))
+  pub acts : (n : ℕ) (h : Held) (p : ActivityPath) (now : ℕ) (s : Process) (c : Command) → Asked (Some p) c → is_of_one_frame (Some p) c ≡ true → P n h (p ∷ []) s → P (n + 1) h (p ∷ []) (left_by s (act_at p 1 now s c))
   pub requests : (n : ℕ) (h : Held) (now : ℕ) (s : Process) (c : Command) → Asked None c → resets c ≡ false → P n h [] s
       → let x = left_by (s, h) (request_in h 1 now s c) in P (n + 1) x.1 [] x.0
   pub acquires : (n : ℕ) (h : Held) (now : ℕ) (s : Process) (c : Command) (frames : List ActivityPath) (before : Process) → Asked None c → resets c ≡ false → P n h [] s → P n h frames before
@@ -83,22 +80,6 @@ begins_open (unit.Activation key p) s h = ready_opens (activity_at p s) h
 begins_open _ s h = refl
 
 -- ---- commands by their rows
-
-no_reset : (a b : Bool) → (a && not b) ≡ true → b ≡ false
-no_reset true true h = cc
-no_reset true false h = refl
-no_reset false b h = cc
-
-from_fourteen : (n : ℕ) (a b : Bool) → nat_le n 13 ≡ b → (a || nat_le 14 n) ≡ true → a ≡ false → b ≡ false
-from_fourteen n true b d h f = cc
-from_fourteen n false b d h f = grind arith
-
-past_four_by : (a b : Bool) → a || b ≡ false → a ≡ false
-past_four_by true b h = cc
-past_four_by false b h = refl
-
-past_four : (c : Command) → is_of_requests c ≡ false → nat_le (command_number c) 4 ≡ false
-past_four c h = past_four_by (nat_le (command_number c) 4) (is_none (opens_on c) && names_acquired c) h
 
 -- the process that an answer leaves, and what is held then
 abbrev left_with : Process → Held → Answer (Process × Held) → Process × Held
@@ -242,20 +223,6 @@ module _ (P : ℕ → Held → List ActivityPath → Process → Type 0) (Asked 
       kept_in : (p : ActivityPath) → IsKept (P n u.held) (Some p) [] f.kept → IsKept (P (n + 1) u.held) (Some p) [] f.kept
       kept_in p k = later_one n u.held (Some p) [] f.kept k
 
-      refused_case : (p : ActivityPath) (a : Answer (Process × Held)) → a ≡ refused resp.Invreq reason.Place → P n u.held (p ∷ []) u.now.process → IsKept (P n u.held) (Some p) [] f.kept
-          → Behind (Some p) (left_with u.now.process u.held a)
-      refused_case p a e h k =
-          subst (λ x. Behind (Some p) (left_with u.now.process u.held x)) (sym e)
-          (record { now_so = carries.later n u.held (p ∷ []) u.now.process h; kept_so = kept_in p k })
-
-      act_case : (p : ActivityPath) (b : Bool) → is_of_requests c ≡ b → Asked (Some p) c → is_of_one_frame (Some p) c ≡ true → P n u.held (p ∷ []) u.now.process → IsKept (P n u.held) (Some p) [] f.kept
-          → Behind (Some p) (left_with u.now.process u.held (answer_at (Some p)))
-      act_case p true e asked i h k = refused_case p (answer_at (Some p)) (out_of_frame p u.held 1 u.moment u.now.process c e) h k
-      act_case p false e asked i h k =
-          subst (λ x. Behind (Some p) (left_with u.now.process u.held x)) (sym (of_activity p u.held 1 u.moment u.now.process c (past_four c e) (from_fourteen (command_number c) (is_of_requests c) _ refl i e)))
-          (subst (Behind (Some p)) (sym (left_of u.held u.now.process (act_at p u.moment u.now.process c)))
-          (record { now_so = carries.acts n u.held p u.moment u.now.process c asked h; kept_so = kept_in p k }))
-
       -- in a request's first frame
 
       acquired_case : (o : Option Standing) → Asked None c → resets c ≡ false → P n u.held [] u.now.process → IsKept (P n u.held) None [] o
@@ -269,9 +236,11 @@ module _ (P : ℕ → Held → List ActivityPath → Process → Type 0) (Asked 
           → Behind at (left_with u.now.process u.held (answer_at at))
       unfolding answer
       answer_case None asked i h k =
-          let l = no_reset (is_none (opens_on c)) (resets c) i in
+          let l = none_resets c i in
           record { now_so = carries.requests n u.held u.moment u.now.process c asked l h; kept_so = acquired_case f.kept asked l h k }
-      answer_case (Some p) asked i h k = act_case p (is_of_requests c) refl asked i h k
+      answer_case (Some p) asked i h k =
+          subst (Behind (Some p)) (sym (left_of u.held u.now.process (act_at p 1 u.moment u.now.process c)))
+          (record { now_so = carries.acts n u.held p u.moment u.now.process c asked i h; kept_so = kept_in p k })
 
       by_row : Asked f.at c → is_of_one_frame f.at c ≡ true → Own (n + 1) (done_in f [] one c).1
       by_row asked i = row_case (here u.held f.at) (answer_at f.at) (opens_none f.at c i) (answer_case f.at asked i process kept)

@@ -7,7 +7,6 @@ use Rattle.bts_command.specs.declared.ended.Ended.{Ended}
 use Rattle.bts_command.specs.declared.ended.UnitKind.{UnitKind}
 use Rattle.bts_command.specs.declared.ended.UnitKind.TheVariants as unit
 use Rattle.bts_names.specs.declared.key.Key.{Key}
-use Rattle.bts_tree.specs.Processes.{Process}
 use Rattle.bts_tree.specs.Repositories.{Processes}
 use Rattle.bts_tree.specs.Soundness.{AreSound, bound_of_units}
 use Rattle.bts_unit.specs.Playing.{Plays, PlaysOn, after, finished, process_of, put_back}

@@ -3,7 +3,6 @@ use Rattle.std.proofs.Common.{◌≡◌, ℕ, ◌+◌, true, false, nat_le, [], 
 use Rattle.std.proofs.lemmas.Bool.{and_parts}
 use Rattle.bts_names.specs.Names.{Name, ActivityPath}
 use Rattle.bts_names.specs.Named.{lookup}
-use Rattle.bts_names.specs.declared.state.TimerStatus.TheVariants as status
 use Rattle.bts_command.specs.declared.ended.UnitKind.{UnitKind}
 use Rattle.bts_command.specs.declared.ended.UnitKind.TheVariants as unit
 use Rattle.bts_event.specs.Events.{event_of}
@@ -11,12 +10,11 @@ use Rattle.bts_timer.specs.Due.{is_due, is_unexpired}
 use Rattle.bts_timer.specs.declared.timer.Timer.{Timer}
 use Rattle.bts_tree.specs.declared.activity.Activity.{Activity}
 use Rattle.bts_tree.specs.Processes.{Process, activity_at}
-use Rattle.bts_tree.specs.Soundness.{IsSoundActivity, IsSoundInFrames, is_within}
-use Rattle.bts_rows.proofs.ActSound.{own_sound}
+use Rattle.bts_tree.specs.Soundness.{IsSoundInFrames, is_within}
+use Rattle.bts_rows.proofs.ExpirySound.{expiry_sound}
 use Rattle.bts_rows.proofs.Grows.{Grows, grows_at, grows_within}
-use Rattle.bts_rows.proofs.InPlace.{edited_keeps_soundness}
+use Rattle.bts_rows.proofs.InPlace.{own_sound}
 use Rattle.bts_rows.proofs.LastNumbers.{next_fired_if}
-use Rattle.bts_rows.proofs.TimerFits.{fits_ended}
 use Rattle.bts_unit.specs.Standings.{moved}
 use Rattle.bts_unit.specs.Systems.{expired, has_due, may_expire, system, with_expired}
 
@@ -41,14 +39,11 @@ module _ (moment : ℕ) (p : ActivityPath) (t : Name) (s : Process) where
   runs_out h = activity_case (activity_at p s) refl h
 
 module _ (p : ActivityPath) (t : Name) (s : Process) (x : RunsOut p t s) (sound : IsSoundInFrames [] s) where
-  own : IsSoundActivity x.activity
-  own = own_sound [] s sound p x.activity x.there
-
   expired_sound : IsSoundInFrames [] (expired p t s)
-  expired_sound = edited_keeps_soundness [] s p (with_expired t) x.activity sound x.there (fits_ended t x.timer x.activity own x.found x.unexpired status.Expired refl)
+  expired_sound = expiry_sound s p t x.activity x.timer sound x.there x.found x.unexpired
 
   expired_grows : Grows 0 1 true s (expired p t s)
-  expired_grows = grows_at 1 true p (with_expired t) s x.activity x.there (record { last = next_fired_if (event_of t x.activity.pool.events) x.activity.pool own.pool; timers = λ e none. cc })
+  expired_grows = grows_at 1 true p (with_expired t) s x.activity x.there (record { last = next_fired_if (event_of t x.activity.pool.events) x.activity.pool (own_sound [] s sound p x.activity x.there).pool; timers = λ e none. cc })
 
 -- ---- a unit that expires a timer
 

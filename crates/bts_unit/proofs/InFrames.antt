@@ -1,90 +1,79 @@
--- Commands by their rows in the frame of an activity.
-use Rattle.std.proofs.Common.{◌≡◌, ℕ, Bool, true, false, cond, ◌&&◌, ◌||◌, nat_le, is_none, refl, ap}
+-- Commands by their rows in the frame of an activity: read on the whole process, and what they leave of it.
+use Rattle.std.proofs.Common.{◌≡◌, ℕ, Bool, true, false, not, ◌&&◌, ◌||◌, [], ◌∷◌, Option, None, Some, Result, is_none, is_some, refl, sym, ap, ◌∙◌, subst}
+use Rattle.std.proofs.lemmas.Bool.{and_parts}
+use Rattle.bts_event.proofs.Same.{same_sym}
 use Rattle.bts_names.specs.Names.{ActivityPath}
-use Rattle.bts_names.specs.Answer.{Answer, refused, done, mapped}
+use Rattle.bts_names.specs.Answer.{refused, left_by}
+use Rattle.bts_names.specs.declared.memory.NoMemory.{NoMemory}
+use Rattle.bts_names.specs.declared.reply.Reply.{Reply}
 use Rattle.bts_names.specs.declared.reply.Resp.TheVariants as resp
 use Rattle.bts_names.specs.declared.reply.Reason.TheVariants as reason
-use Rattle.bts_command.specs.Numbers.{command_number}
+use Rattle.bts_command.specs.Given.{IsGiven}
 use Rattle.bts_command.specs.declared.command.Command.{Command}
 use Rattle.bts_command.specs.declared.command.Command.TheVariants as command
 use Rattle.bts_command.specs.declared.command.Target.TheVariants as of
-use Rattle.bts_tree.specs.Processes.{Process, join, part}
-use Rattle.bts_rows.specs.declared.held.Held.{Held}
-use Rattle.bts_rows.specs.ActRows.{act_row}
-use Rattle.bts_rows.specs.FamilyRows.{family_row}
-use Rattle.bts_rows.specs.RequestRows.{request_row}
-use Rattle.bts_rows.specs.Rows.{act_at, answer, keeping, row}
-use Rattle.bts_rows.specs.Targets.{in_activity}
+use Rattle.bts_tree.specs.Processes.{Process, activity_at}
+use Rattle.bts_tree.specs.Soundness.{IsSoundInFrames}
+use Rattle.bts_rows.specs.declared.places.Held.{Held}
+use Rattle.bts_rows.specs.declared.places.Held.TheVariants as held
+use Rattle.bts_rows.specs.declared.places.Here.TheVariants as stands
+use Rattle.bts_rows.specs.Families.{IsTop, rearms, resets}
+use Rattle.bts_rows.specs.Rows.{act_at, answer, thing_row}
+use Rattle.bts_rows.proofs.Edits.{HasOrder}
+use Rattle.bts_rows.proofs.Frames.{row_on_whole}
+use Rattle.bts_rows.proofs.Tables.{act_at_sound}
+use Rattle.bts_act.specs.Built.{is_built}
+use Rattle.bts_act.specs.Does.{Does}
+use Rattle.bts_act.proofs.Lifts.{lift_does}
 use Rattle.bts_unit.specs.Calls.{opens_on}
-use Rattle.bts_unit.specs.OneFrame.{is_of_requests, names_acquired}
+use Rattle.bts_unit.specs.Frames.{here}
+use Rattle.bts_unit.specs.OneFrame.{is_of_one_frame}
 
--- ---- rows in the frame of an activity
+-- a command of one frame opens none, and in a request's first one it isn't RESET of what is acquired
+pub none_opens : (at : Option ActivityPath) (c : Command) → is_of_one_frame at c ≡ true → is_none (opens_on c) ≡ true
+none_opens at c i = (and_parts (is_none (opens_on c)) (is_built (here held.Never at) c) i).0
 
-module _ (p : ActivityPath) (h : Held) (depth now : ℕ) (s : Process) where
-  abbrev joined : Process × Held → Process × Held
-  joined x = (join p s x.0, h)
+no_reset : (a b : Bool) → (a && not b) ≡ true → b ≡ false
+no_reset true true h = cc
+no_reset true false h = refl
+no_reset false b h = cc
 
-  abbrev with_held : Process → Process × Held
-  with_held x = (x, h)
+pub none_resets : (c : Command) → is_of_one_frame None c ≡ true → resets c ≡ false
+none_resets c i = no_reset (is_none (opens_on c)) (resets c) i
 
-  acquires_nothing : (c : Command) → request_row (in_activity p) (part p s) c ≡ refused resp.Invreq reason.Place
-  unfolding request_row
-  acquires_nothing (command.DefineProcess t g) = refl
-  acquires_nothing command.AcquireProcess = refl
-  acquires_nothing (command.AcquireActivity q) = refl
-  acquires_nothing command.PurgeProcess = refl
-  acquires_nothing _ = refl
+module _ (p : ActivityPath) where
+  pub built : (c : Command) → is_of_one_frame (Some p) c ≡ true → is_built (stands.Activity p) c ≡ true
+  built c i = (and_parts (is_none (opens_on c)) (is_built (stands.Activity p) c) i).1
 
-  -- the commands that acquire a process
-  acquiring : (c : Command) → nat_le (command_number c) 4 ≡ true → answer (in_activity p) h depth now s c ≡ refused resp.Invreq reason.Place
-  unfolding answer row
-  acquiring c e = by (nat_le (command_number c) 4) (nat_le (command_number c) 13) e
-    where
-      by : (a b : Bool) → a ≡ true
-          → mapped joined (cond a (request_row (in_activity p) (part p s) c) (cond b (keeping h (family_row (in_activity p) depth (part p s) c)) (keeping h (act_row (in_activity p) now (part p s) c)))) ≡ refused resp.Invreq reason.Place
-      by true b q = ap (mapped joined) (acquires_nothing c)
-      by false b q = cc
+  -- no frame is open below the only one
+  is_top : IsTop (p ∷ []) (stands.Activity p)
+  is_top r l h = ap (λ b. b || false) (same_sym r p ∙ h)
 
-  -- the commands on what was acquired
-  on_acquired : (c : Command) → names_acquired c ≡ true → answer (in_activity p) h depth now s c ≡ refused resp.Invreq reason.Place
-  unfolding answer row family_row
-  on_acquired (command.Run of.AcqProcess opens e) q = refl
-  on_acquired (command.Run of.AcqActivity opens e) q = refl
-  on_acquired (command.Link of.AcqProcess e) q = refl
-  on_acquired (command.Link of.AcqActivity e) q = refl
-  on_acquired (command.Check of.AcqProcess) q = refl
-  on_acquired (command.Check of.AcqActivity) q = refl
-  on_acquired (command.Cancel of.AcqProcess) q = refl
-  on_acquired (command.Cancel of.AcqActivity) q = refl
-  on_acquired (command.Reset of.AcqProcess) q = refl
-  on_acquired (command.Reset of.AcqActivity) q = refl
-  on_acquired (command.Suspend of.AcqProcess) q = refl
-  on_acquired (command.Suspend of.AcqActivity) q = refl
-  on_acquired (command.Resume of.AcqProcess) q = refl
-  on_acquired (command.Resume of.AcqActivity) q = refl
-  on_acquired _ q = cc
+  module _ (depth now : ℕ) (s : Process) where
+    -- what is done to the whole process is done to the part, and joined
+    pub does_in_part : (c : Command) → HasOrder s.tree → (r : Result Reply NoMemory) (new : Process) → Does r s new (thing_row (stands.Activity p) depth now s c) → Does r s new (act_at p depth now s c)
+    does_in_part c ordered r new d = subst (Does r s new) (sym (row_on_whole p depth now s c ordered)) d
 
-  -- both are out of place
-  pub out_of_frame : (c : Command) → is_of_requests c ≡ true → answer (in_activity p) h depth now s c ≡ refused resp.Invreq reason.Place
-  out_of_frame c e = by (nat_le (command_number c) 4) (is_none (opens_on c)) refl e
-    where
-      by : (a b : Bool) → nat_le (command_number c) 4 ≡ a → a || (b && names_acquired c) ≡ true → answer (in_activity p) h depth now s c ≡ refused resp.Invreq reason.Place
-      by true b f q = acquiring c f
-      by false true f q = on_acquired c q
-      by false false f q = cc
+    pub does_in_frame : (h : Held) (c : Command) (r : Result Reply NoMemory) (new : Process) → Does r s new (act_at p depth now s c) → Does r (s, h) (new, h) (answer (stands.Activity p) h depth now s c)
+    unfolding answer
+    does_in_frame h c r new d = lift_does (λ x. (x, h)) r s new (s, h) (act_at p depth now s c) refl d
 
-  kept_in_place : (a : Answer Process) → mapped joined (keeping h a) ≡ mapped with_held (mapped (join p s) a)
-  kept_in_place (refused r why) = refl
-  kept_in_place (done v x) = refl
+    -- what was acquired is reset in a request's first frame alone
+    resets_none : (c : Command) → resets c ≡ true → act_at p depth now s c ≡ refused resp.Invreq reason.Place
+    unfolding thing_row
+    resets_none (command.Reset of.AcqProcess) e = refl
+    resets_none (command.Reset of.AcqActivity) e = refl
+    resets_none _ e = cc
 
-  -- the commands on containers, events and timers
-  pub of_activity : (c : Command) → nat_le (command_number c) 4 ≡ false → nat_le (command_number c) 13 ≡ false
-      → answer (in_activity p) h depth now s c ≡ mapped with_held (act_at p now s c)
-  unfolding answer row
-  of_activity c e f = by (nat_le (command_number c) 4) (nat_le (command_number c) 13) e f
-    where
-      by : (a b : Bool) → a ≡ false → b ≡ false
-          → mapped joined (cond a (request_row (in_activity p) (part p s) c) (cond b (keeping h (family_row (in_activity p) depth (part p s) c)) (keeping h (act_row (in_activity p) now (part p s) c)))) ≡ mapped with_held (mapped (join p s) (act_row (in_activity p) now (part p s) c))
-      by false false q r = kept_in_place (act_row (in_activity p) now (part p s) c)
-      by true b q r = cc
-      by false true q r = cc
+    rearms_none : (c : Command) → is_built (stands.Activity p) c ≡ true → resets c ≡ false → rearms (stands.Activity p) c ≡ false
+    rearms_none (command.Reset target) i e = cc
+    rearms_none _ i e = refl
+
+    -- a sound process stays sound
+    pub sound_in_frame : (c : Command) → is_of_one_frame (Some p) c ≡ true → IsGiven c → is_some (activity_at p s) ≡ true → IsSoundInFrames (p ∷ []) s
+        → IsSoundInFrames (p ∷ []) (left_by s (act_at p depth now s c))
+    sound_in_frame c i given there sound = by (resets c) refl
+      where
+        by : (b : Bool) → resets c ≡ b → IsSoundInFrames (p ∷ []) (left_by s (act_at p depth now s c))
+        by true e = subst (λ x. IsSoundInFrames (p ∷ []) (left_by s x)) (sym (resets_none c e)) sound
+        by false e = act_at_sound (p ∷ []) p depth now s c there given (λ f. is_top) (λ f. let g = rearms_none c (built c i) e in cc) sound

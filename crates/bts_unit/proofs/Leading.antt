@@ -8,7 +8,7 @@ use Rattle.bts_command.specs.declared.ended.UnitKind.TheVariants as unit
 use Rattle.bts_tree.specs.declared.activity.Activity.{Activity}
 use Rattle.bts_tree.specs.Activities.{is_dormant, is_initial}
 use Rattle.bts_tree.specs.Leading.{leads_from}
-use Rattle.bts_tree.specs.Modes.{abends, finishes, frame_opens, is_mode_active, waits}
+use Rattle.bts_tree.specs.Modes.{frame_opens, is_mode_active}
 use Rattle.bts_tree.specs.Processes.{Process, activity_at}
 use Rattle.bts_tree.specs.Soundness.{IsSoundInFrames}
 use Rattle.bts_rows.proofs.Active.{active_at, is_active}

@@ -5,7 +5,7 @@ use Rattle.bts_command.specs.declared.command.Call.{Call}
 use Rattle.bts_command.specs.declared.command.Command.{Command}
 use Rattle.bts_command.specs.declared.ended.End.{End}
 use Rattle.bts_tree.specs.Processes.{Process}
-use Rattle.bts_rows.specs.declared.held.Held.{Held}
+use Rattle.bts_rows.specs.declared.places.Held.{Held}
 use Rattle.bts_unit.specs.Calls.{call, commands_of, run, unit_behind}
 use Rattle.bts_unit.specs.Frames.{OpenFrame, UnitOfWork}
 use Rattle.bts_unit.specs.Standings.{Standing}

@@ -1,5 +1,5 @@
 -- A unit that has an open frame hasn't ended, and its calls are those that it made.
-use Rattle.std.proofs.Common.{◌≡◌, ℕ, length, Bool, true, false, List, [], ◌∷◌, ◌++◌, Option, None, Some, refl, sym, ap, ◌∙◌, subst}
+use Rattle.std.proofs.Common.{◌≡◌, ℕ, length, Bool, true, false, List, [], ◌∷◌, ◌++◌, Option, None, Some, Result, Ok, Err, refl, sym, ap, ◌∙◌, subst}
 use Rattle.std.proofs.lemmas.List.{append-nil, append_assoc}
 use Rattle.bts_names.specs.Answer.{Answer, refused, done}
 use Rattle.bts_names.specs.Names.{ActivityPath}
@@ -14,9 +14,10 @@ use Rattle.bts_command.specs.declared.ended.End.{End}
 use Rattle.bts_command.specs.declared.ended.End.TheVariants.{Commit, Rollback, Abend}
 use Rattle.bts_tree.specs.declared.activity.Activity.{Activity}
 use Rattle.bts_tree.specs.Processes.{Process, activity_at}
-use Rattle.bts_rows.specs.declared.held.Held.{Held}
+use Rattle.bts_rows.specs.declared.places.Held.{Held}
 use Rattle.bts_rows.specs.Rows.{answer}
-use Rattle.bts_rows.specs.Targets.{Here, Named, path, none}
+use Rattle.bts_rows.specs.declared.places.Here.{Here}
+use Rattle.bts_rows.specs.declared.places.Unfound.{Unfound}
 use Rattle.bts_unit.specs.Calls.{answered, call, called_in, commands_of, done_in, made, made_first, opened_by, opens_on, run, says_ran, stepped, unit_behind, with_frame_at}
 use Rattle.bts_unit.specs.Ends.{closed, leaving_of, left, returned, returned_at, rolled_back}
 use Rattle.bts_unit.specs.Frames.{OpenFrame, UnitOfWork, here}
@@ -62,9 +63,9 @@ module _ (u : UnitOfWork) (is_open : u.end ≡ None) where
   rolls_back (Some p) frame = itself
 
 module _ (u : UnitOfWork) (is_open : u.end ≡ None) where
-  opens_at : (n : Named) (keeps : Bool) → Stays u (with_frame_at n keeps u)
-  opens_at (none resp why) keeps = itself u is_open
-  opens_at (path p) keeps = record { base = refl; calls = refl; fits = is_open }
+  opens_at : (n : Result ActivityPath Unfound) (keeps : Bool) → Stays u (with_frame_at n keeps u)
+  opens_at (Err why) keeps = itself u is_open
+  opens_at (Ok p) keeps = record { base = refl; calls = refl; fits = is_open }
 
   opens : (h : Here) (t : Option (Target × Bool)) (ran : Bool) → Stays u (opened_by h t ran u)
   opens h None ran = itself u is_open

@@ -10,7 +10,7 @@ use Rattle.bts_command.specs.declared.command.Command.{Command}
 use Rattle.bts_command.specs.declared.command.Command.TheVariants as command
 use Rattle.bts_tree.specs.declared.activity.Activity.{Activity}
 use Rattle.bts_tree.specs.Processes.{Process, activity_at}
-use Rattle.bts_rows.specs.declared.held.Held.{Held}
+use Rattle.bts_rows.specs.declared.places.Held.{Held}
 use Rattle.bts_rows.specs.Rows.{answer}
 use Rattle.bts_act.specs.Does.{Does}
 use Rattle.bts_act.specs.Replies.{normal}

@@ -1,5 +1,5 @@
 -- What a command raises by one at most, and what openings and ends of frames keep, beside a sound process.
-use Rattle.std.proofs.Common.{◌≡◌, ℕ, ◌+◌, ◌≤◌, true, false, List, [], ◌∷◌, length, Option, Some, None}
+use Rattle.std.proofs.Common.{◌≡◌, ℕ, ◌+◌, ◌≤◌, true, List, [], ◌∷◌, length, Option, Some, None}
 use Rattle.std.specs.List.{AllByRecursion}
 use Rattle.bts_names.specs.Answer.{left_by}
 use Rattle.bts_names.specs.Names.{Name, ActivityPath}
@@ -11,9 +11,8 @@ use Rattle.bts_tree.specs.Activities.{by_cause}
 use Rattle.bts_tree.specs.Modes.{Cause, frame_opens, waits}
 use Rattle.bts_tree.specs.Processes.{Process, complete, edited}
 use Rattle.bts_tree.specs.Soundness.{IsSoundInFrames}
-use Rattle.bts_rows.specs.declared.held.Held.{Held}
-use Rattle.bts_rows.specs.declared.held.Held.TheVariants as held
-use Rattle.bts_rows.specs.FamilyRows.{resets}
+use Rattle.bts_rows.specs.declared.places.Held.{Held}
+use Rattle.bts_rows.specs.declared.places.Held.TheVariants as held
 use Rattle.bts_command.specs.Given.{IsGiven}
 use Rattle.bts_rows.specs.Rows.{act_at, request_in}
 use Rattle.bts_unit.specs.Calls.{call, run}
@@ -32,10 +31,10 @@ pub record Rises (Q : ℕ → Held → Process → Type 0) (Asked : Option Activ
   pub later : (n : ℕ) (h : Held) (s : Process) → Q n h s → Q (n + 1) h s
   pub turns : (n : ℕ) (h : Held) (p : ActivityPath) (why : Cause) (s : Process) → Q n h s → Q n h (edited p (by_cause why None) s)
   pub completes : (n : ℕ) (h : Held) (p : ActivityPath) (status : Status) (code : Option Name) (s : Process) → Q n h s → Q n h (complete p status code s)
-  pub acts : (n : ℕ) (h : Held) (p : ActivityPath) (now : ℕ) (s : Process) (c : Command) → Asked (Some p) c → IsSoundInFrames (p ∷ []) s → Q n h s → Q (n + 1) h (left_by s (act_at p now s c))
-  pub requests : (n : ℕ) (h : Held) (now : ℕ) (s : Process) (c : Command) → Asked None c → resets c ≡ false → IsSoundInFrames [] s → Q n h s
+  pub acts : (n : ℕ) (h : Held) (p : ActivityPath) (now : ℕ) (s : Process) (c : Command) → Asked (Some p) c → IsSoundInFrames (p ∷ []) s → Q n h s → Q (n + 1) h (left_by s (act_at p 1 now s c))
+  pub requests : (n : ℕ) (h : Held) (now : ℕ) (s : Process) (c : Command) → Asked None c → IsSoundInFrames [] s → Q n h s
       → let x = left_by (s, h) (request_in h 1 now s c) in Q (n + 1) x.1 x.0
-  pub acquires : (n : ℕ) (h : Held) (now : ℕ) (s : Process) (c : Command) (before : Process) → Asked None c → resets c ≡ false → IsSoundInFrames [] s → Q n h s → Q n h before
+  pub acquires : (n : ℕ) (h : Held) (now : ℕ) (s : Process) (c : Command) (before : Process) → Asked None c → IsSoundInFrames [] s → Q n h s → Q n h before
       → Q n (left_by (s, h) (request_in h 1 now s c)).1 before
 
 module _ (Q : ℕ → Held → Process → Type 0) (Asked : Option ActivityPath → Command → Type 0) (rises : Rises Q Asked) where
@@ -53,9 +52,9 @@ module _ (Q : ℕ → Held → Process → Type 0) (Asked : Option ActivityPath 
     rests = λ n h p s k. (sound_carries.rests n h p s k.0, rises.turns n h p waits s k.1);
     finishes = λ n h p s k. (sound_carries.finishes n h p s k.0, rises.completes n h p status.Normal None s k.1);
     abends = λ n h p code s k m. (sound_carries.abends n h p code s k.0 m, rises.completes n h p status.Abend (Some code) s k.1);
-    acts = λ n h p now s c asked k. (sound_carries.acts n h p now s c asked.0 k.0, rises.acts n h p now s c asked.1 k.0 k.1);
-    requests = λ n h now s c asked l k. (sound_carries.requests n h now s c asked.0 l k.0, rises.requests n h now s c asked.1 l k.0 k.1);
-    acquires = λ n h now s c frames before asked l now_holds k. (k.0, rises.acquires n h now s c before asked.1 l now_holds.0 now_holds.1 k.1);
+    acts = λ n h p now s c asked i k. (sound_carries.acts n h p now s c asked.0 i k.0, rises.acts n h p now s c asked.1 k.0 k.1);
+    requests = λ n h now s c asked l k. (sound_carries.requests n h now s c asked.0 l k.0, rises.requests n h now s c asked.1 k.0 k.1);
+    acquires = λ n h now s c frames before asked l now_holds k. (k.0, rises.acquires n h now s c before asked.1 now_holds.0 now_holds.1 k.1);
   }
 
   -- it holds of a unit

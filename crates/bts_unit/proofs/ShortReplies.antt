@@ -1,19 +1,16 @@
 -- A sound unit's calls are answered with no more bytes than a container may have.
-use Rattle.std.proofs.Common.{◌≡◌, ℕ, ◌+◌, ◌≤◌, Bool, true, false, List, [], ◌∷◌, ◌++◌, length, Option, Some, None, refl, ap, subst, sym, ◌∙◌, arith}
-use Rattle.std.specs.List.{AllByRecursion}
+use Rattle.std.proofs.Common.{◌≤◌, Bool, true, false, List, [], ◌∷◌, length, Option, Some, None, arith}
 use Rattle.bts_names.specs.Answer.{Answer, refused, done, reply_of}
-use Rattle.bts_names.specs.Names.{Name, ActivityPath}
-use Rattle.bts_command.specs.Given.{IsGiven}
+use Rattle.bts_names.specs.Names.{ActivityPath}
 use Rattle.bts_command.specs.Sizes.{got_bytes}
-use Rattle.bts_command.specs.declared.command.Call.{Call}
 use Rattle.bts_command.specs.declared.command.Command.{Command}
 use Rattle.bts_command.specs.declared.command.Command.TheVariants as command
 use Rattle.bts_container.specs.Containers.{size_limit}
 use Rattle.bts_tree.specs.declared.activity.Activity.{Activity}
 use Rattle.bts_tree.specs.Processes.{Process, activity_at}
 use Rattle.bts_tree.specs.Soundness.{IsSoundInFrames}
-use Rattle.bts_rows.specs.declared.held.Held.{Held}
-use Rattle.bts_rows.specs.Targets.{Here}
+use Rattle.bts_rows.specs.declared.places.Held.{Held}
+use Rattle.bts_rows.specs.declared.places.Here.{Here}
 use Rattle.bts_rows.specs.Rows.{answer}
 use Rattle.bts_rows.proofs.Values.{answered_short}
 use Rattle.bts_unit.specs.Calls.{answered, call, called_by, called_in, done_in}

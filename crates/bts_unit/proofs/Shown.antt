@@ -1,5 +1,5 @@
 -- What is done to the work of a unit is a step of the unit that it shows.
-use Rattle.std.proofs.Common.{◌≡◌, ℕ, Bool, true, false, ◌&&◌, ◌||◌, List, [], ◌∷◌, Option, Some, None, Ok, refl, sym, ap, ◌∙◌, subst}
+use Rattle.std.proofs.Common.{◌≡◌, ℕ, Bool, true, false, ◌&&◌, ◌||◌, List, [], ◌∷◌, Option, Some, None, is_none, Ok, refl, sym, ap, ◌∙◌, subst}
 use Rattle.bts_names.specs.Names.{Name, ActivityPath}
 use Rattle.bts_names.specs.Answer.{Answer, refused, done, reply_of}
 use Rattle.bts_names.specs.declared.reply.Leaving.{Leaving}
@@ -16,12 +16,12 @@ use Rattle.bts_command.specs.declared.ended.End.{End}
 use Rattle.bts_tree.specs.declared.activity.Activity.{Activity}
 use Rattle.bts_tree.specs.Processes.{Process, activity_at}
 use Rattle.bts_tree.specs.Scopes.{HeldProcess}
-use Rattle.bts_rows.specs.declared.held.Held.{Held}
+use Rattle.bts_rows.specs.declared.places.Held.{Held}
 use Rattle.bts_rows.specs.Replies.{is_normal}
-use Rattle.bts_rows.specs.Targets.{Here}
+use Rattle.bts_rows.specs.declared.places.Here.{Here}
 use Rattle.bts_rows.specs.Rows.{answer}
-use Rattle.bts_rows.proofs.Proper.{SaysWhy}
-use Rattle.bts_rows.proofs.ProperRows.{why_answer}
+use Rattle.bts_rows.proofs.Replies.{why_answer}
+use Rattle.bts_rows.proofs.Telling.{SaysWhy}
 use Rattle.bts_act.specs.Does.{Does}
 use Rattle.bts_act.specs.Replies.{normal}
 use Rattle.bts_unit.specs.Calls.{answered, called_in, done_in, is_retrieval, opened_by, opens_on, says_ran, stepped}
@@ -33,6 +33,7 @@ use Rattle.bts_unit.specs.OnWork as on
 use Rattle.bts_unit.specs.Standings.{Standing, behind, moved, retrieving, with_process}
 use Rattle.bts_unit.specs.declared.work.FirstFrame.{FirstFrame}
 use Rattle.bts_unit.specs.declared.work.Work.{Work}
+use Rattle.bts_unit.proofs.InFrames.{none_opens}
 
 -- ---- the frame of a unit with one frame
 
@@ -41,14 +42,13 @@ opened f = record { at = f.at; program = f.program; opened = 0; retrieved = f.re
 
 -- ---- one command
 
+none_of : {A : Type 0} (o : Option A) → is_none o ≡ true → o ≡ None
+none_of None e = refl
+none_of (Some x) e = cc
+
 -- a command of one frame opens none
 pub opens_none : (at : Option ActivityPath) (c : Command) → is_of_one_frame at c ≡ true → opens_on c ≡ None
-opens_none None (command.Run t true v) i = cc
-opens_none (Some p) (command.Run t true v) i = cc
-opens_none at (command.Run t false v) i = refl
-opens_none None (command.Link t v) i = cc
-opens_none (Some p) (command.Link t v) i = cc
-opens_none at _ i = refl
+opens_none at c i = none_of (opens_on c) (none_opens at c i)
 
 pub behind_process : (got : Bool) (now : Standing) (x : Process) → (behind got now x).process ≡ x
 unfolding moved retrieving

@@ -10,12 +10,11 @@ use Rattle.bts_tree.specs.declared.activity.Activity.{Activity}
 use Rattle.bts_tree.specs.Activities.{is_dormant, is_initial}
 use Rattle.bts_tree.specs.Processes.{Process, activity_at}
 use Rattle.bts_tree.specs.Soundness.{IsSoundInFrames}
-use Rattle.bts_rows.specs.declared.held.Held.{Held}
+use Rattle.bts_rows.specs.declared.places.Held.{Held}
 use Rattle.bts_command.specs.Given.{IsGiven}
-use Rattle.bts_rows.proofs.ActSound.{act_at_sound}
 use Rattle.bts_rows.proofs.Active.{runs_at}
 use Rattle.bts_rows.proofs.Completing.{complete_keeps_soundness, ending_keeps_soundness}
-use Rattle.bts_rows.proofs.RequestSound.{request_in_sound}
+use Rattle.bts_rows.proofs.Tables.{request_in_sound}
 use Rattle.bts_rows.proofs.Turned.{opening_keeps_soundness, opens_goes_on, waiting_keeps_soundness}
 use Rattle.bts_act.specs.Early.{none_early}
 use Rattle.bts_act.proofs.Late.{sound_none_early}
@@ -27,6 +26,7 @@ use Rattle.bts_unit.specs.Replays.{top_path}
 use Rattle.bts_unit.specs.Soundness.{IsSoundUnit, may_open, paths_of}
 use Rattle.bts_unit.proofs.Carried.{Carries}
 use Rattle.bts_unit.proofs.Carried as carried
+use Rattle.bts_unit.proofs.InFrames.{sound_in_frame}
 
 -- an activity whose frame may open
 record OpensAt (p : ActivityPath) (s : Process) : Type 0 where
@@ -57,8 +57,8 @@ sound_carries = record {
   rests = λ n h p s k. waiting_keeps_soundness [] s p refl k;
   finishes = λ n h p s k. ending_keeps_soundness [] p status.Normal None s refl refl (λ q e. cc) k;
   abends = λ n h p code s k m. let at = opens_at p s m in complete_keeps_soundness [] p status.Abend (Some code) s at.activity refl refl (λ q e. cc) k at.found (opens_goes_on at.activity.mode at.waiting);
-  acts = λ n h p now s c g k. act_at_sound (p ∷ []) p now s c (ap is_some (runs_at (p ∷ []) p s k (opened p)).found) g k;
-  requests = λ n h now s c g l k. request_in_sound s h 1 now c k g l;
+  acts = λ n h p now s c g i k. sound_in_frame p 1 now s c i g (ap is_some (runs_at (p ∷ []) p s k (opened p)).found) k;
+  requests = λ n h now s c g l k. request_in_sound s h 1 now c k g (λ e. cc);
   acquires = λ n h now s c frames before g l now_sound k. k;
 }
 

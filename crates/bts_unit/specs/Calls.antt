@@ -1,5 +1,5 @@
 -- What each call of a unit of work answers, and the unit behind it.
-use Rattle.std.specs.Prelude.{◌+◌, Bool, true, false, cond, ◌||◌, List, [], ◌∷◌, ◌++◌, length, map, Option, Some, None}
+use Rattle.std.specs.Prelude.{◌+◌, Bool, true, false, cond, ◌||◌, List, [], ◌∷◌, ◌++◌, length, map, Option, Some, None, Result, Ok, Err}
 use Rattle.bts_names.specs.Answer.{Answer, refused, done}
 use Rattle.bts_names.specs.Names.{ActivityPath}
 use Rattle.bts_names.specs.declared.reply.Reply.{Reply}
@@ -10,9 +10,11 @@ use Rattle.bts_command.specs.declared.command.Command.{Command}
 use Rattle.bts_command.specs.declared.command.Command.TheVariants as command
 use Rattle.bts_command.specs.declared.command.Target.{Target}
 use Rattle.bts_tree.specs.Processes.{Process}
-use Rattle.bts_rows.specs.declared.held.Held.{Held}
+use Rattle.bts_rows.specs.declared.places.Held.{Held}
 use Rattle.bts_rows.specs.Rows.{answer}
-use Rattle.bts_rows.specs.Targets.{Here, Named, path, none, named_by}
+use Rattle.bts_rows.specs.declared.places.Here.{Here}
+use Rattle.bts_rows.specs.declared.places.Unfound.{Unfound}
+use Rattle.bts_rows.specs.Places.{find_target}
 use Rattle.bts_act.specs.Replies.{normal, refusal}
 use Rattle.bts_unit.specs.Ends.{abended, out_of_place, returned, rolled_back}
 use Rattle.bts_unit.specs.Frames.{OpenFrame, UnitOfWork, activated, here, program_at}
@@ -38,15 +40,15 @@ with_frame p keeps u =
       frames = record { at = Some p; program = program_at (Some p) u.now.process; opened = length u.calls + 1; retrieved = false; kept = cond keeps (Some u.now) None } ∷ u.frames;
     }
 
-abbrev pub with_frame_at : Named → Bool → UnitOfWork → UnitOfWork
-with_frame_at (none resp why) keeps u = u
-with_frame_at (path p) keeps u = with_frame p keeps u
+abbrev pub with_frame_at : Result ActivityPath Unfound → Bool → UnitOfWork → UnitOfWork
+with_frame_at (Err why) keeps u = u
+with_frame_at (Ok p) keeps u = with_frame p keeps u
 
 -- behind a command that was done: whether it says that a frame opens
 abbrev pub opened_by : Here → Option (Target × Bool) → Bool → UnitOfWork → UnitOfWork
 opened_by h None ran u = u
 opened_by h (Some t) false u = u
-opened_by h (Some t) true u = with_frame_at (named_by h u.now.process t.0) t.1 u
+opened_by h (Some t) true u = with_frame_at (find_target h u.now.process t.0) t.1 u
 
 -- ---- one command
 

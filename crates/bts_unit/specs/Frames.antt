@@ -10,9 +10,10 @@ use Rattle.bts_command.specs.declared.ended.UnitKind.TheVariants as unit
 use Rattle.bts_tree.specs.Activities.{by_cause}
 use Rattle.bts_tree.specs.Modes.{frame_opens}
 use Rattle.bts_tree.specs.Processes.{Process, activity_at, edited}
-use Rattle.bts_rows.specs.declared.held.Held.{Held}
-use Rattle.bts_rows.specs.declared.held.Held.TheVariants as held
-use Rattle.bts_rows.specs.Targets.{Here, in_activity, in_request}
+use Rattle.bts_rows.specs.declared.places.Held.{Held}
+use Rattle.bts_rows.specs.declared.places.Held.TheVariants as held
+use Rattle.bts_rows.specs.declared.places.Here.{Here}
+use Rattle.bts_rows.specs.declared.places.Here.TheVariants as stands
 use Rattle.bts_unit.specs.Standings.{Standing, standing, with_process}
 use Rattle.bts_unit.specs.declared.frame.Frame.{Frame}
 
@@ -43,8 +44,8 @@ open_paths u = filter_map (λ f. f.at) u.frames
 
 -- where a command stands in a frame
 abbrev pub here : Held → Option ActivityPath → Here
-here h None = in_request h
-here h (Some p) = in_activity p
+here h None = stands.Request h
+here h (Some p) = stands.Activity p
 
 -- the program of a frame that opens in a process
 abbrev pub program_at : Option ActivityPath → Process → Option Name

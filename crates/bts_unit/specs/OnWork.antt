@@ -16,8 +16,8 @@ use Rattle.bts_tree.specs.Activities.{by_cause}
 use Rattle.bts_tree.specs.Modes.{waits}
 use Rattle.bts_tree.specs.Processes.{Process, activity_at, complete, edited}
 use Rattle.bts_tree.specs.Scopes.{HeldProcess, holding}
-use Rattle.bts_rows.specs.declared.held.Held.{Held}
-use Rattle.bts_rows.specs.declared.held.Held.TheVariants as held
+use Rattle.bts_rows.specs.declared.places.Held.{Held}
+use Rattle.bts_rows.specs.declared.places.Held.TheVariants as held
 use Rattle.bts_rows.specs.Replies.{is_normal}
 use Rattle.bts_act.specs.Replies.{normal}
 use Rattle.bts_unit.specs.Calls.{is_retrieval}

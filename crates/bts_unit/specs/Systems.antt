@@ -13,8 +13,8 @@ use Rattle.bts_timer.specs.Timers.{Timers, with_status}
 use Rattle.bts_tree.specs.declared.activity.Activity.{Activity}
 use Rattle.bts_tree.specs.Paths.{number_of, parent_of}
 use Rattle.bts_tree.specs.Processes.{Process, activity_at, edited, with_pool}
-use Rattle.bts_rows.specs.ActRows.{fired_if}
-use Rattle.bts_rows.specs.declared.held.Held.TheVariants as held
+use Rattle.bts_rows.specs.Timing.{fired_if}
+use Rattle.bts_rows.specs.declared.places.Held.TheVariants as held
 use Rattle.bts_unit.specs.Frames.{UnitOfWork}
 use Rattle.bts_unit.specs.Standings.{moved, standing}
 

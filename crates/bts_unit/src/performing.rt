@@ -1,5 +1,5 @@
 // One command in the frame of a unit.
-ghost use Rattle.std.specs.Prelude.{◌≡◌, ◌<◌, ◌-◌, ◌^◌, IsTrue, IfOk, OnErr, Some, is_some, true, false};
+ghost use Rattle.std.specs.Prelude.{◌≡◌, ◌<◌, ◌-◌, ◌^◌, IsTrue, IfOk, OnErr, Some, is_some, true};
 ghost use Rattle.bts_command.specs.declared.command.Command.TheVariants as commands;
 ghost use Rattle.bts_tree.specs.Soundness.{numbers_below};
 ghost use Rattle.bts_tree.specs.Scopes.{holding};
@@ -11,7 +11,7 @@ ghost use Rattle.bts_act.specs.Early.{none_early};
 ghost use Rattle.bts_act.specs.Replies.{normal};
 ghost use Rattle.bts_unit.specs.Calls.{called_on_top, is_retrieval};
 ghost use Rattle.bts_unit.specs.Frames.{here, is_there_at};
-ghost use Rattle.bts_unit.specs.OneFrame.{is_of_one_frame, ends_frame};
+ghost use Rattle.bts_unit.specs.OneFrame.{is_of_one_frame};
 ghost use Rattle.bts_unit.specs.OnWork as on;
 
 use crate::ending::{abend, return_from, roll_back};
@@ -57,7 +57,6 @@ fn step(work: &mut Work, alloc: Global, command: &Command) -> Result<Reply, NoMe
     requires generation { work.old.scope.process.generation < 2 ^ 64 - 1 }
     requires given { IsGiven command.now }
     requires one_frame { IsTrue (is_of_one_frame (on.at_of work.old.frame) command.now) }
-    requires goes_on { ends_frame command.now ≡ false }
     ensures row { Does result (work.old.scope.process, work.old.held) (work.new.scope.process, work.new.held)
         (answer (here work.old.held (on.at_of work.old.frame)) work.old.held 1 work.old.moment work.old.scope.process command.now) }
     ensures ok { IfOk result (λ reply. work.new

@@ -31,6 +31,10 @@ enum Step {
     Reattach,
     Return,
     Rollback,
+    /// CANCEL of what a request acquires.
+    Cancel,
+    /// DELETE ACTIVITY of a child that isn't there.
+    Delete,
 }
 
 fn a_key() -> Option<Key> {
@@ -207,6 +211,17 @@ fn timer() -> Option<Command>
     })
 }
 
+fn delete() -> Option<Command>
+    ensures given { IfSome result (λ c. IsGiven c) }
+    ensures one_frame { IfSome result (λ c. IsTrue (is_of_one_frame (Some []) c)) }
+{
+    let activity = Name16::read(b"KID").ok()?;
+    if !is_free(activity) {
+        return None;
+    }
+    Some(Command::DeleteActivity { activity })
+}
+
 fn command_of(step: Step) -> Option<Command>
     ensures given { IfSome result (λ c. IsGiven c) }
     ensures one_frame { IfSome result (λ c. IsTrue (is_of_one_frame (Some []) c)) }
@@ -219,6 +234,10 @@ fn command_of(step: Step) -> Option<Command>
             end_activity: false,
         }),
         Step::Rollback => Some(Command::Rollback),
+        Step::Cancel => Some(Command::Cancel {
+            target: Target::AcqProcess,
+        }),
+        Step::Delete => delete(),
     }
 }
 
@@ -337,12 +356,12 @@ fn is_of_root(frame: &Frame) -> bool {
     frame.at == Some(Path::root()) && frame.program == Some(program) && frame.depth == 1
 }
 
-/// Whether an activation answers ROLLBACK so, and its frame stays open.
-fn stays_open(alloc: Global, resp: Resp, reason: Reason) -> bool {
+/// Whether an activation answers a command so, and its frame stays open.
+fn stays_open(alloc: Global, step: Step, resp: Resp, reason: Reason) -> bool {
     let Some(mut unit) = an_activation(alloc) else {
         return false;
     };
-    if !call_all(&mut unit, &[Step::Rollback]) {
+    if !call_all(&mut unit, &[step]) {
         return false;
     }
     let answered = match unit.calls().last() {
@@ -357,9 +376,11 @@ fn stays_open(alloc: Global, resp: Resp, reason: Reason) -> bool {
 }
 
 #[test]
-fn programs_roll_nothing_back(rt: HostRuntime) -> Result<(), Fail> {
+fn refusals_leave_the_frame_open(rt: HostRuntime) -> Result<(), Fail> {
     let alloc = rt.alloc();
-    assert!(rt; stays_open(alloc, Resp::Invreq, Reason::Place));
+    assert!(rt; stays_open(alloc, Step::Rollback, Resp::Invreq, Reason::Place));
+    assert!(rt; stays_open(alloc, Step::Cancel, Resp::Invreq, Reason::Place));
+    assert!(rt; stays_open(alloc, Step::Delete, Resp::Activityerr, Reason::Missing));
     Ok(())
 }
 

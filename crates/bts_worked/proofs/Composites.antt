@@ -16,10 +16,11 @@ use Rattle.bts_event.specs.declared.event.Trigger.{Trigger}
 use Rattle.bts_event.specs.declared.event.Trigger.TheVariants.{Input, Timer}
 use Rattle.bts_event.specs.Pool.{settled}
 use Rattle.bts_tree.specs.Processes.{Process}
-use Rattle.bts_rows.specs.ActRows.{act_row}
-use Rattle.bts_rows.specs.FamilyRows.{family_row}
 use Rattle.bts_rows.specs.RequestRows.{request_row}
-use Rattle.bts_rows.specs.Rows.{answer, row}
+use Rattle.bts_rows.specs.Rows.{answer, thing_row}
+use Rattle.bts_rows.specs.OnActivity.{on_activity}
+use Rattle.bts_rows.specs.OnContainers.{on_containers, on_shown}
+use Rattle.bts_rows.specs.OnFamily.{on_family}
 use Rattle.bts_worked.proofs.Tables.{◌answers◌, Plays, talk, ok, event, normal, refusal, root, request, new, run, active, dormant, with_root}
 
 abbrev either : Name
@@ -64,7 +65,7 @@ two_entries : Plays root 0 (active run) (
         last = 3;
       };
     }) new))
-unfolding talk answer row act_row family_row request_row settled
+unfolding talk answer thing_row request_row on_activity on_containers on_shown on_family settled
 two_entries = refl
 
 -- ---- an OR of two inputs, which are fired before anything is retrieved
@@ -94,7 +95,7 @@ waits_for_either : Plays root 0 (active run) (
     ∷ (command.DefineComposite either false (i1 ∷ i2 ∷ []) answers ok)
     ∷ [])
     (active (waiting [] false false [] 1))
-unfolding talk answer row act_row family_row request_row settled
+unfolding talk answer thing_row request_row on_activity on_containers on_shown on_family settled
 waits_for_either = refl
 
 -- two firings make one entry
@@ -104,7 +105,7 @@ fired_before : Plays request 0 (waiting [] false false [] 1) (
     ∷ (command.Run of.AcqProcess false (Some i1) answers ok)
     ∷ [])
     (waiting (i2 ∷ i1 ∷ []) true true (record { name = either; number = 2 } ∷ []) 2)
-unfolding talk answer row act_row family_row request_row settled
+unfolding talk answer thing_row request_row on_activity on_containers on_shown on_family settled
 fired_before = refl
 
 -- and they are retrieved in the order in which they fired
@@ -115,7 +116,7 @@ in_order_of_firing : Plays root 0 (active (waiting (i2 ∷ i1 ∷ []) true true 
     ∷ (command.RetrieveSubevent either answers refusal resp.End reason.Empty)
     ∷ [])
     (active (waiting [] false false [] 2))
-unfolding talk answer row act_row family_row request_row settled
+unfolding talk answer thing_row request_row on_activity on_containers on_shown on_family settled
 in_order_of_firing = refl
 
 -- ---- one input that is sent twice: what is fired fires no more, and is retrieved once
@@ -126,7 +127,7 @@ sent_twice : Plays request 0 (waiting [] false false [] 1) (
     ∷ (command.Run of.AcqProcess false (Some i2) answers refusal resp.Eventerr reason.Fired)
     ∷ [])
     (waiting (i2 ∷ []) false true (record { name = either; number = 2 } ∷ []) 2)
-unfolding talk answer row act_row family_row request_row settled
+unfolding talk answer thing_row request_row on_activity on_containers on_shown on_family settled
 sent_twice = refl
 
 retrieved_once : Plays root 0 (active (waiting (i2 ∷ []) false true (record { name = either; number = 2 } ∷ []) 2)) (
@@ -136,7 +137,7 @@ retrieved_once : Plays root 0 (active (waiting (i2 ∷ []) false true (record { 
     ∷ (command.RetrieveSubevent either answers refusal resp.End reason.Empty)
     ∷ [])
     (active (waiting [] false false [] 2))
-unfolding talk answer row act_row family_row request_row settled
+unfolding talk answer thing_row request_row on_activity on_containers on_shown on_family settled
 retrieved_once = refl
 
 -- ---- an AND, which turns, and makes its entry, where its last unfired sub-event leaves
@@ -162,7 +163,7 @@ turned_by_leaving : Plays root 0 (active run) (
         last = 2;
       };
     }) new))
-unfolding talk answer row act_row family_row request_row settled
+unfolding talk answer thing_row request_row on_activity on_containers on_shown on_family settled
 turned_by_leaving = refl
 
 -- what can't become a sub-event: a composite, a sub-event, what is fired, what isn't there
@@ -175,5 +176,5 @@ no_subevents : Plays root 0 (active (waiting (i2 ∷ []) false true [] 2)) (
     ∷ (command.DefineInput i1 answers refusal resp.Eventerr reason.Taken)
     ∷ [])
     (active (waiting (i2 ∷ []) false true [] 2))
-unfolding talk answer row act_row family_row request_row settled
+unfolding talk answer thing_row request_row on_activity on_containers on_shown on_family settled
 no_subevents = refl

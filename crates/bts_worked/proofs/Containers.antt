@@ -11,10 +11,12 @@ use Rattle.bts_command.specs.declared.command.Target.TheVariants as of
 use Rattle.bts_container.specs.Containers.{Containers}
 use Rattle.bts_tree.specs.Activities.{new_activity}
 use Rattle.bts_tree.specs.Processes.{Process, added, edited, with_containers}
-use Rattle.bts_rows.specs.ActRows.{act_row}
 use Rattle.bts_rows.specs.RequestRows.{request_row}
-use Rattle.bts_rows.specs.Rows.{answer, row}
-use Rattle.bts_rows.specs.Targets.{Here, in_activity}
+use Rattle.bts_rows.specs.declared.places.Here.{Here}
+use Rattle.bts_rows.specs.declared.places.Here.TheVariants as stands
+use Rattle.bts_rows.specs.Rows.{answer, thing_row}
+use Rattle.bts_rows.specs.OnActivity.{on_activity}
+use Rattle.bts_rows.specs.OnContainers.{on_containers, on_shown}
 use Rattle.bts_worked.proofs.Tables.{◌answers◌, Plays, talk, ok, normal, refusal, root, request, undefined, new, active, with_root, define_process}
 
 abbrev bytes : Bytes → Reply
@@ -28,12 +30,12 @@ message : Plays request 0 undefined (
     ∷ (command.GetContainer (codes "MSG") (spot.Of of.AcqProcess) answers bytes (codes "hello"))
     ∷ [])
     (with_containers ((codes "MSG", codes "hello") ∷ []) new)
-unfolding talk answer row act_row request_row
+unfolding talk answer thing_row request_row on_activity on_containers on_shown
 message = refl
 
 -- a key that is in use isn't defined again
 taken : Plays request 0 new ((define_process answers refusal resp.Processerr reason.Taken) ∷ []) new
-unfolding talk answer row request_row
+unfolding talk answer thing_row request_row
 taken = refl
 
 not_acquired : Plays request 0 undefined (
@@ -43,7 +45,7 @@ not_acquired : Plays request 0 undefined (
     ∷ (command.TestEvent (codes "E") answers refusal resp.Invreq reason.Place)
     ∷ [])
     undefined
-unfolding talk answer row act_row request_row
+unfolding talk answer thing_row request_row on_activity on_containers on_shown
 not_acquired = refl
 
 -- ---- in the frames of a root and of its child
@@ -58,7 +60,7 @@ abbrev one : Bytes → Containers
 one text = (codes "C", text) ∷ []
 
 abbrev child : Here
-child = in_activity (1 ∷ [])
+child = stands.Activity (1 ∷ [])
 
 -- each place has its own containers
 at_three_places : Plays root 0 (holding [] [] []) (
@@ -71,7 +73,7 @@ at_three_places : Plays root 0 (holding [] [] []) (
     ∷ (command.GetContainer (codes "C") (spot.Of of.AcqProcess) answers refusal resp.Invreq reason.Place)
     ∷ [])
     (holding (one (codes "p")) (one (codes "r")) (one (codes "c")))
-unfolding talk answer row act_row
+unfolding talk answer thing_row on_activity on_containers on_shown
 at_three_places = refl
 
 -- a child reads the containers of the process and doesn't change them, and sees none of its parent's
@@ -84,7 +86,7 @@ in_the_child : Plays child 0 (holding (one (codes "p")) (one (codes "r")) []) (
     ∷ (command.GetContainer (codes "C") (spot.Of (of.Activity (codes "B"))) answers refusal resp.Activityerr reason.Missing)
     ∷ [])
     (holding (one (codes "p")) (one (codes "r")) (one (codes "c")))
-unfolding talk answer row act_row
+unfolding talk answer thing_row on_activity on_containers on_shown
 in_the_child = refl
 
 -- a put of a name that is there keeps its place, and what stood behind a deleted one closes up
@@ -95,5 +97,5 @@ in_order : Plays root 0 (holding [] ((codes "B", codes "1") ∷ (codes "A", code
     ∷ (command.PutContainer (codes "A") spot.Own (codes "5") answers ok)
     ∷ [])
     (holding [] ((codes "B", codes "4") ∷ (codes "C", codes "3") ∷ (codes "A", codes "5") ∷ []) [])
-unfolding talk answer row act_row
+unfolding talk answer thing_row on_activity on_containers on_shown
 in_order = refl

@@ -20,10 +20,11 @@ use Rattle.bts_event.specs.Pool.{Pool, settled}
 use Rattle.bts_tree.specs.Activities.{new_activity}
 use Rattle.bts_tree.specs.Processes.{Process, added, purged}
 use Rattle.bts_tree.specs.declared.activity.Activity.{Activity}
-use Rattle.bts_rows.specs.ActRows.{act_row}
-use Rattle.bts_rows.specs.FamilyRows.{family_row}
 use Rattle.bts_rows.specs.RequestRows.{request_row}
-use Rattle.bts_rows.specs.Rows.{answer, row}
+use Rattle.bts_rows.specs.Rows.{answer, thing_row}
+use Rattle.bts_rows.specs.OnActivity.{on_activity}
+use Rattle.bts_rows.specs.OnContainers.{on_containers, on_shown}
+use Rattle.bts_rows.specs.OnFamily.{on_family}
 use Rattle.bts_worked.proofs.Tables.{◌answers◌, Plays, talk, undefined, run, ok, normal, refusal, root, request, new, active, dormant, with_root, define_process}
 
 abbrev a : Name
@@ -68,7 +69,7 @@ made : Plays root 0 (active new) (
     ∷ (command.DeleteEvent a answers refusal resp.Eventerr reason.Kind)
     ∷ [])
     (family false new_child)
-unfolding talk answer row act_row family_row settled
+unfolding talk answer thing_row on_activity on_containers on_shown on_family settled
 made = refl
 
 -- its completion event goes with a child, and its number isn't given again
@@ -78,7 +79,7 @@ taken_away : Plays root 0 (family false new_child) (
     ∷ (command.TestEvent a answers refusal resp.Eventerr reason.Missing)
     ∷ [])
     (parent [])
-unfolding talk answer row act_row family_row settled
+unfolding talk answer thing_row on_activity on_containers on_shown on_family settled
 taken_away = refl
 
 -- ---- run
@@ -91,7 +92,7 @@ first_run : Plays root 0 (family false new_child) (
     ∷ (command.Run of.AcqProcess false None answers refusal resp.Invreq reason.Place)
     ∷ [])
     (family false (started new_child))
-unfolding talk answer row family_row
+unfolding talk answer thing_row on_activity on_family
 first_run = refl
 
 -- a request defines a process and runs its root
@@ -103,12 +104,12 @@ root_runs : Plays request 0 undefined (
     ∷ (command.DefineActivity a None (codes "T1") (codes "KID") answers refusal resp.Invreq reason.Place)
     ∷ [])
     run
-unfolding talk answer row family_row request_row
+unfolding talk answer thing_row request_row on_activity on_family
 root_runs = refl
 
 -- whether a frame opens is the value of a RUN SYNCHRONOUS and of a LINK; none does on what is suspended
 frame_opens : Plays root 0 (family false new_child) ((command.Run child true None answers normal (value.Ran true)) ∷ []) (family false (started new_child))
-unfolding talk answer row family_row
+unfolding talk answer thing_row on_activity on_family
 frame_opens = refl
 
 no_frame_opens : Plays root 0 (family false new_child) (
@@ -118,7 +119,7 @@ no_frame_opens : Plays root 0 (family false new_child) (
     ∷ (command.Resume child answers ok)
     ∷ [])
     (family false (started new_child))
-unfolding talk answer row family_row
+unfolding talk answer thing_row on_activity on_family
 no_frame_opens = refl
 
 -- what is DORMANT is run with an event that a program fires
@@ -133,7 +134,7 @@ run_again : Plays request 0 (waiting false [] 1) (
     ∷ (command.AcquireProcess answers refusal resp.Invreq reason.Acquired)
     ∷ [])
     (waiting true (record { name = codes "I"; number = 2 } ∷ []) 2)
-unfolding talk answer row family_row request_row settled
+unfolding talk answer thing_row request_row on_activity on_family settled
 run_again = refl
 
 -- ---- ended
@@ -146,7 +147,7 @@ cancelled : Plays root 0 (family false (started new_child)) (
     ∷ (command.Suspend child answers refusal resp.Activityerr reason.Mode)
     ∷ [])
     (family false (ended status.Forced (started new_child)))
-unfolding talk answer row family_row
+unfolding talk answer thing_row on_activity on_family
 cancelled = refl
 
 -- the parent that checks a child that ended is told, and the child's completion event goes
@@ -155,7 +156,7 @@ checked : Plays root 0 (family true (ended status.Normal (started new_child))) (
     ∷ (command.TestEvent a answers refusal resp.Eventerr reason.Missing)
     ∷ [])
     (added (1 ∷ []) (record (ended status.Normal (started new_child)) { told = true }) (parent []))
-unfolding talk answer row act_row family_row settled
+unfolding talk answer thing_row on_activity on_containers on_shown on_family settled
 checked = refl
 
 -- RESET makes it as new, and its completion event again; the numbers of its entries go on
@@ -164,7 +165,7 @@ reset : Plays root 0 (added (1 ∷ []) (record (ended status.Normal (started new
     ∷ (command.Check child answers stands mode.Initial status.Incomplete false)
     ∷ [])
     (family false (record new_child { pool = of_events [] [] 1 }))
-unfolding talk answer row family_row settled
+unfolding talk answer thing_row on_activity on_family settled
 reset = refl
 
 not_at_rest : Plays root 0 (family false (record new_child { mode = mode.Dormant })) (
@@ -172,7 +173,7 @@ not_at_rest : Plays root 0 (family false (record new_child { mode = mode.Dormant
     ∷ (command.DeleteActivity a answers refusal resp.Activityerr reason.Mode)
     ∷ [])
     (family false (record new_child { mode = mode.Dormant }))
-unfolding talk answer row family_row
+unfolding talk answer thing_row on_activity on_family
 not_at_rest = refl
 
 -- ---- a process that is purged is defined again under the next generation
@@ -184,13 +185,13 @@ purged_once : Plays request 0 (with_root (λ r. record r { mode = mode.Complete;
     ∷ (command.PurgeProcess answers refusal resp.Invreq reason.NotAcquired)
     ∷ [])
     (purged new)
-unfolding talk answer row request_row
+unfolding talk answer thing_row request_row
 purged_once = refl
 
 defined_again : Plays request 0 (purged new) ((define_process answers ok) ∷ []) (record new { generation = 2 })
-unfolding talk answer row request_row
+unfolding talk answer thing_row request_row
 defined_again = refl
 
 not_while_it_waits : Plays request 0 (dormant new) ((command.AcquireProcess answers ok) ∷ (command.PurgeProcess answers refusal resp.Processerr reason.Mode) ∷ []) (dormant new)
-unfolding talk answer row request_row
+unfolding talk answer thing_row request_row
 not_while_it_waits = refl

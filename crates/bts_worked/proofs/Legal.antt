@@ -11,10 +11,11 @@ use Rattle.bts_command.specs.declared.ended.End.TheVariants.{Commit, Abend}
 use Rattle.bts_command.specs.declared.ended.Ended.{Ended}
 use Rattle.bts_command.specs.declared.ended.UnitKind.TheVariants as unit
 use Rattle.bts_event.specs.Pool.{settled}
-use Rattle.bts_rows.specs.ActRows.{act_row}
-use Rattle.bts_rows.specs.FamilyRows.{family_row}
 use Rattle.bts_rows.specs.RequestRows.{request_row}
-use Rattle.bts_rows.specs.Rows.{answer, row}
+use Rattle.bts_rows.specs.Rows.{answer, thing_row}
+use Rattle.bts_rows.specs.OnActivity.{on_activity}
+use Rattle.bts_rows.specs.OnContainers.{on_containers, on_shown}
+use Rattle.bts_rows.specs.OnFamily.{on_family}
 use Rattle.bts_forms.specs.declared.statement.Statement.TheVariants as statement
 use Rattle.bts_session.specs.declared.session.Item.TheVariants as item
 use Rattle.bts_session.specs.declared.session.Session.{Session}
@@ -71,7 +72,7 @@ abbrev pub activation : Ended
 activation = record { unit = unit.Activation p19 []; moment = 0; end = Abend (codes "NOPG"); calls = (command.Abend (codes "NOPG") gives ok) ∷ []; rows = []; seq = 2 }
 
 serial : IsSerial lacking origin 1 (request ∷ activation ∷ [])
-unfolding next place_behind row answer act_row family_row request_row settled called_in call calls.run moved retrieving works own_calls next_call statements_with due_end unit_behind
+unfolding next place_behind answer thing_row request_row on_activity on_containers on_shown on_family settled called_in call calls.run moved retrieving works own_calls next_call statements_with due_end unit_behind
 serial =
     record {
       in_order = record {
@@ -123,7 +124,7 @@ abbrev pub second_first : List Ended
 second_first = empty_request 2 (key_of (codes "P2")) 1 ∷ empty_request 1 (key_of (codes "P1")) 2 ∷ []
 
 second_is_next : IsNext two origin (empty_request 2 (key_of (codes "P2")) 1)
-unfolding next place_behind row answer act_row family_row request_row settled called_in call calls.run moved retrieving works own_calls next_call statements_with due_end unit_behind
+unfolding next place_behind answer thing_row request_row on_activity on_containers on_shown on_family settled called_in call calls.run moved retrieving works own_calls next_call statements_with due_end unit_behind
 second_is_next =
     record {
       enabled = refl;
@@ -138,7 +139,7 @@ second_is_next =
 
 -- the second one may come first
 legal : IsLegal two origin second_first
-unfolding next place_behind row answer act_row family_row request_row settled called_in call calls.run moved retrieving works own_calls next_call statements_with due_end unit_behind
+unfolding next place_behind answer thing_row request_row on_activity on_containers on_shown on_family settled called_in call calls.run moved retrieving works own_calls next_call statements_with due_end unit_behind
 legal = (
   second_is_next,
   (
@@ -158,7 +159,7 @@ legal = (
 
 -- but not in the serial history
 not_least : IsLeast two origin second_first → ⊥
-unfolding next place_behind row answer act_row family_row request_row settled called_in call calls.run moved retrieving works own_calls next_call statements_with due_end unit_behind
+unfolding next place_behind answer thing_row request_row on_activity on_containers on_shown on_family settled called_in call calls.run moved retrieving works own_calls next_call statements_with due_end unit_behind
 not_least l = let e : Some (unit.Request 1 (key_of (codes "P1"))) ≡ Some (unit.Request 2 (key_of (codes "P2"))) = l.0 in cc
 
 -- ---- a command that is left out
@@ -168,5 +169,5 @@ abbrev cut_short : Ended
 cut_short = record request { calls = (return gives ok) ∷ [] }
 
 not_the_text : IsNext lacking origin cut_short → ⊥
-unfolding next place_behind row answer act_row family_row request_row settled called_in call calls.run moved retrieving works own_calls next_call statements_with due_end unit_behind
+unfolding next place_behind answer thing_row request_row on_activity on_containers on_shown on_family settled called_in call calls.run moved retrieving works own_calls next_call statements_with due_end unit_behind
 not_the_text n = let e : Some define ≡ Some return = n.text.follows.commands 0 (lit≤ tt) in cc

@@ -4,10 +4,11 @@ use Rattle.bts_command.specs.declared.ended.Ended.{Ended}
 use Rattle.bts_command.specs.declared.ended.UnitKind.{UnitKind}
 use Rattle.bts_command.specs.declared.ended.UnitKind.TheVariants as unit
 use Rattle.bts_event.specs.Pool.{settled}
-use Rattle.bts_rows.specs.ActRows.{act_row}
-use Rattle.bts_rows.specs.FamilyRows.{family_row}
 use Rattle.bts_rows.specs.RequestRows.{request_row}
-use Rattle.bts_rows.specs.Rows.{answer, row}
+use Rattle.bts_rows.specs.Rows.{answer, thing_row}
+use Rattle.bts_rows.specs.OnActivity.{on_activity}
+use Rattle.bts_rows.specs.OnContainers.{on_containers, on_shown}
+use Rattle.bts_rows.specs.OnFamily.{on_family}
 use Rattle.bts_session.specs.declared.session.Item.TheVariants as item
 use Rattle.bts_session.specs.declared.session.Session.{Session}
 use Rattle.bts_unit.specs.Calls.{call, called_in, run}
@@ -36,7 +37,7 @@ two_keys : map offer (
     region two 0 ((0, one) ∷ (1, other) ∷ []) [] ∷
     region two 0 [] second_first ∷ []) ≡
     work one ∷ work other ∷ work one ∷ wait ∷ all_done ∷ []
-unfolding row answer act_row family_row request_row settled called_in call run moved retrieving works
+unfolding answer thing_row request_row on_activity on_containers on_shown on_family settled called_in call run moved retrieving works
 two_keys = refl
 
 -- two requests of one key: the second one waits for the first
@@ -54,5 +55,5 @@ limits : map offer (
     region lacking 1 ((0, unit.Activation p19 []) ∷ []) (request ∷ []) ∷
     region lacking 1 [] (request ∷ activation ∷ []) ∷ []) ≡
     limit_met 0 ∷ work (unit.Activation p19 []) ∷ wait ∷ all_done ∷ []
-unfolding row answer act_row family_row request_row settled called_in call run moved retrieving works
+unfolding answer thing_row request_row on_activity on_containers on_shown on_family settled called_in call run moved retrieving works
 limits = refl

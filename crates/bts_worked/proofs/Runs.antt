@@ -16,10 +16,11 @@ use Rattle.bts_command.specs.declared.ended.UnitKind.{UnitKind}
 use Rattle.bts_command.specs.declared.ended.UnitKind.TheVariants as unit
 use Rattle.bts_event.specs.Pool.{settled}
 use Rattle.bts_tree.specs.Repositories.{Processes, process_at, rows}
-use Rattle.bts_rows.specs.ActRows.{act_row}
-use Rattle.bts_rows.specs.FamilyRows.{family_row}
 use Rattle.bts_rows.specs.RequestRows.{request_row}
-use Rattle.bts_rows.specs.Rows.{answer, row}
+use Rattle.bts_rows.specs.Rows.{answer, thing_row}
+use Rattle.bts_rows.specs.OnActivity.{on_activity}
+use Rattle.bts_rows.specs.OnContainers.{on_containers, on_shown}
+use Rattle.bts_rows.specs.OnFamily.{on_family}
 use Rattle.bts_forms.specs.Texts.{is_decimal, number_in, number_within, behind_front, cut_at, cut_at_last, closed_by, first_word}
 use Rattle.bts_forms.specs.Pieces.{behind_word, up_to, argument, argument_in, at_next_word, argument_to_last, ended}
 use Rattle.bts_forms.specs.Arguments.{step_in, steps_in, path_in, hex_digit, hex_pair, hex_pairs, text_in, pairs_in, fill_in}
@@ -97,7 +98,7 @@ ended_by session at u =
 
 -- up to so many units
 unfoldable pub history : ℕ → Session → Position → List Ended
-unfolding talk_from next place_behind row answer act_row family_row request_row settled called_in call run moved retrieving works own_calls next_call statements_with due_end unit_behind
+unfolding talk_from next place_behind answer thing_row request_row on_activity on_containers on_shown on_family settled called_in call run moved retrieving works own_calls next_call statements_with due_end unit_behind
 history zero session at = []
 history (suc n) session at =
     elim (least session at) [

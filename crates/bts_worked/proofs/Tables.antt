@@ -17,10 +17,11 @@ use Rattle.bts_event.specs.Pool.{entered}
 use Rattle.bts_tree.specs.Activities.{new_root}
 use Rattle.bts_tree.specs.Processes.{Process, edited, no_process, planted}
 use Rattle.bts_tree.specs.declared.activity.Activity.{Activity}
-use Rattle.bts_rows.specs.declared.held.Held.{Held}
-use Rattle.bts_rows.specs.declared.held.Held.TheVariants as held
+use Rattle.bts_rows.specs.declared.places.Held.{Held}
+use Rattle.bts_rows.specs.declared.places.Held.TheVariants as held
+use Rattle.bts_rows.specs.declared.places.Here.{Here}
+use Rattle.bts_rows.specs.declared.places.Here.TheVariants as stands
 use Rattle.bts_rows.specs.Rows.{answer}
-use Rattle.bts_rows.specs.Targets.{Here, in_activity, in_request}
 
 -- ---- replies
 
@@ -45,8 +46,8 @@ pub data Line : Type 0 where
 
 -- a request's first frame goes on with what it acquired
 abbrev next_frame : Here → Held → Here
-next_frame (in_activity p) h = in_activity p
-next_frame (in_request g) h = in_request h
+next_frame (stands.Activity p) h = stands.Activity p
+next_frame (stands.Request g) h = stands.Request h
 
 -- commands one after the other in one frame, at one moment: the lines, and the process behind them
 unfoldable pub talk : Here → Held → ℕ → Process → List Command → List Line × Process
@@ -67,10 +68,10 @@ Plays here now before lines behind = talk here held.Never now before (map comman
 -- ---- frames and processes
 
 abbrev pub request : Here
-request = in_request held.Never
+request = stands.Request held.Never
 
 abbrev pub root : Here
-root = in_activity []
+root = stands.Activity []
 
 abbrev pub undefined : Process
 undefined = no_process (record { ptype = codes "ORDERS"; pname = codes "P1" })

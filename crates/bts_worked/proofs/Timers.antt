@@ -14,10 +14,11 @@ use Rattle.bts_event.specs.declared.event.Trigger.TheVariants.{Timer}
 use Rattle.bts_event.specs.declared.queue.Entry.{Entry}
 use Rattle.bts_event.specs.Pool.{settled}
 use Rattle.bts_tree.specs.Processes.{Process}
-use Rattle.bts_rows.specs.ActRows.{act_row}
-use Rattle.bts_rows.specs.FamilyRows.{family_row}
 use Rattle.bts_rows.specs.RequestRows.{request_row}
-use Rattle.bts_rows.specs.Rows.{answer, row}
+use Rattle.bts_rows.specs.Rows.{answer, thing_row}
+use Rattle.bts_rows.specs.OnActivity.{on_activity}
+use Rattle.bts_rows.specs.OnContainers.{on_containers, on_shown}
+use Rattle.bts_rows.specs.OnFamily.{on_family}
 use Rattle.bts_worked.proofs.Tables.{◌answers◌, Plays, talk, ok, event, normal, refusal, root, new, run, active, with_root}
 
 abbrev t1 : Name
@@ -45,7 +46,7 @@ ordered : Plays root 0 (active run) (
     ∷ (command.DefineTimer t2 None (At 61) answers ok)
     ∷ [])
     (ticking status.Unexpired false [] 1)
-unfolding talk answer row act_row family_row request_row settled
+unfolding talk answer thing_row request_row on_activity on_containers on_shown on_family settled
 ordered = refl
 
 -- a timer that expired goes with its event when it is checked, and one that is UNEXPIRED stays
@@ -58,7 +59,7 @@ checked : Plays root 60 (ticking status.Expired true (record { name = t1; number
     ∷ (command.TestEvent t2 answers refusal resp.Eventerr reason.Missing)
     ∷ [])
     (active (with_root (λ a. record a { pool = record { events = []; entries = []; last = 2 } }) new))
-unfolding talk answer row act_row family_row request_row settled
+unfolding talk answer thing_row request_row on_activity on_containers on_shown on_family settled
 checked = refl
 
 -- one that is forced fires at once, and isn't forced again; neither its name nor that of its event is free
@@ -70,7 +71,7 @@ forced : Plays root 0 (ticking status.Unexpired false [] 1) (
     ∷ (command.DeleteEvent t1 answers refusal resp.Eventerr reason.Kind)
     ∷ [])
     (ticking status.Forced true (record { name = t1; number = 2 } ∷ []) 2)
-unfolding talk answer row act_row family_row request_row settled
+unfolding talk answer thing_row request_row on_activity on_containers on_shown on_family settled
 forced = refl
 
 -- the last moment has no second behind it
@@ -82,5 +83,5 @@ past_the_last : Plays root 253402300799 (active new) (
       timers = (t1, record { due = 253402300799; status = status.Unexpired }) ∷ [];
       pool = record { events = (t1, atomic (record { trigger = Timer t1; fired = false })) ∷ []; entries = []; last = 0 };
     }) new))
-unfolding talk answer row act_row family_row request_row settled
+unfolding talk answer thing_row request_row on_activity on_containers on_shown on_family settled
 past_the_last = refl

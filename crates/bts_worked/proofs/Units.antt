@@ -27,10 +27,14 @@ use Rattle.bts_tree.specs.declared.activity.Activity.{Activity}
 use Rattle.bts_tree.specs.declared.mark.Mark.{Mark}
 use Rattle.bts_tree.specs.Activities.{new_activity}
 use Rattle.bts_tree.specs.Processes.{Process, added, complete, edited}
-use Rattle.bts_rows.specs.ActRows.{act_row, with_timer}
-use Rattle.bts_rows.specs.FamilyRows.{family_row, with_child, with_signal}
 use Rattle.bts_rows.specs.RequestRows.{request_row}
-use Rattle.bts_rows.specs.Rows.{answer, row}
+use Rattle.bts_rows.specs.Rows.{answer, thing_row}
+use Rattle.bts_rows.specs.OnActivity.{on_activity}
+use Rattle.bts_rows.specs.OnContainers.{on_containers, on_shown}
+use Rattle.bts_rows.specs.OnFamily.{on_family}
+use Rattle.bts_rows.specs.Completions.{with_child}
+use Rattle.bts_rows.specs.Signals.{with_signal}
+use Rattle.bts_rows.specs.Timing.{with_timer}
 use Rattle.bts_unit.specs.Calls.{called_in}
 use Rattle.bts_unit.specs.Calls as calls
 use Rattle.bts_unit.specs.Frames.{UnitOfWork, start}
@@ -114,7 +118,7 @@ committed : Gives (request undefined) (
     ∷ returns
     ∷ [])
     record { end = Some Commit; process = run; entered = ([], 1) ∷ []; retrieved = []; dropped = [] }
-unfolding calls.run called_in moved retrieving answer row act_row family_row request_row settled
+unfolding calls.run called_in moved retrieving answer thing_row request_row on_activity on_containers on_shown on_family settled
 committed = refl
 
 -- a request that rolls back, and one that abends, leave the process as it was, and no entry was made
@@ -124,7 +128,7 @@ rolled_back : Gives (request undefined) (
     ∷ (command.Rollback answers ok)
     ∷ [])
     record { end = Some Rollback; process = undefined; entered = []; retrieved = []; dropped = [] }
-unfolding calls.run called_in moved retrieving answer row act_row family_row request_row settled
+unfolding calls.run called_in moved retrieving answer thing_row request_row on_activity on_containers on_shown on_family settled
 rolled_back = refl
 
 abended : Gives (request undefined) (
@@ -133,7 +137,7 @@ abended : Gives (request undefined) (
     ∷ (command.Abend (codes "OOPS") answers ok)
     ∷ [])
     record { end = Some (Abend (codes "OOPS")); process = undefined; entered = []; retrieved = []; dropped = [] }
-unfolding calls.run called_in moved retrieving answer row act_row family_row request_row settled
+unfolding calls.run called_in moved retrieving answer thing_row request_row on_activity on_containers on_shown on_family settled
 abended = refl
 
 -- a request has no activity that RETURN could end
@@ -143,7 +147,7 @@ no_activity : Gives (request new) (
     ∷ returns
     ∷ [])
     record { end = Some Commit; process = new; entered = []; retrieved = []; dropped = [] }
-unfolding calls.run called_in moved retrieving answer row act_row family_row request_row settled
+unfolding calls.run called_in moved retrieving answer thing_row request_row on_activity on_containers on_shown on_family settled
 no_activity = refl
 
 -- ---- activations of a root that was run
@@ -151,13 +155,13 @@ no_activity = refl
 -- without a retrieval a RETURN is an abend: the entry is dropped
 nothing_retrieved : Gives (activation run) (leaves (leaving.Abended (codes "NORT")) ∷ [])
     record { end = Some (Abend (codes "NORT")); process = ended status.Abend (Some (codes "NORT")) run; entered = []; retrieved = []; dropped = ([], 1) ∷ [] }
-unfolding calls.run called_in moved retrieving answer row act_row family_row request_row settled
+unfolding calls.run called_in moved retrieving answer thing_row request_row on_activity on_containers on_shown on_family settled
 nothing_retrieved = refl
 
 -- with no event left the activity is COMPLETE, and with one it waits
 no_event_left : Gives (activation run) (retrieves_initial ∷ leaves leaving.Complete ∷ [])
     record { end = Some Commit; process = ended status.Normal None run; entered = []; retrieved = ([], 1) ∷ []; dropped = [] }
-unfolding calls.run called_in moved retrieving answer row act_row family_row request_row settled
+unfolding calls.run called_in moved retrieving answer thing_row request_row on_activity on_containers on_shown on_family settled
 no_event_left = refl
 
 event_left : Gives (activation run) (
@@ -172,13 +176,13 @@ event_left : Gives (activation run) (
       retrieved = ([], 1) ∷ [];
       dropped = [];
     }
-unfolding calls.run called_in moved retrieving answer row act_row family_row request_row settled
+unfolding calls.run called_in moved retrieving answer thing_row request_row on_activity on_containers on_shown on_family settled
 event_left = refl
 
 -- ENDACTIVITY asks for no retrieval, but for no child that may still tell
 ended_at_once : Gives (activation run) (ends_as leaving.Complete ∷ [])
     record { end = Some Commit; process = ended status.Normal None run; entered = []; retrieved = []; dropped = ([], 1) ∷ [] }
-unfolding calls.run called_in moved retrieving answer row act_row family_row request_row settled
+unfolding calls.run called_in moved retrieving answer thing_row request_row on_activity on_containers on_shown on_family settled
 ended_at_once = refl
 
 -- what the activation did is given back, the retrieval too
@@ -188,7 +192,7 @@ children_left : Gives (activation run) (
     ∷ ends_as (leaving.Abended (codes "CHLD"))
     ∷ [])
     record { end = Some (Abend (codes "CHLD")); process = ended status.Abend (Some (codes "CHLD")) run; entered = []; retrieved = []; dropped = ([], 1) ∷ [] }
-unfolding calls.run called_in moved retrieving answer row act_row family_row request_row settled
+unfolding calls.run called_in moved retrieving answer thing_row request_row on_activity on_containers on_shown on_family settled
 children_left = refl
 
 -- a program can't roll back, and nothing that stands behind its end is done
@@ -199,7 +203,7 @@ program_abends : Gives (activation run) (
     ∷ (command.Abend (codes "OOPS") answers ok)
     ∷ [])
     record { end = Some (Abend (codes "OOPS")); process = ended status.Abend (Some (codes "OOPS")) run; entered = []; retrieved = []; dropped = ([], 1) ∷ [] }
-unfolding calls.run called_in moved retrieving answer row act_row family_row request_row settled
+unfolding calls.run called_in moved retrieving answer thing_row request_row on_activity on_containers on_shown on_family settled
 program_abends = refl
 
 -- ---- limits
@@ -207,11 +211,11 @@ program_abends = refl
 -- a limit ends a unit whose first frame is open; another code doesn't
 limit_met : seen (budgeted (Abend (codes "STEP")) (behind (activation run) (retrieves_initial ∷ [])))
     ≡ record { end = Some (Abend (codes "STEP")); process = ended status.Abend (Some (codes "STEP")) run; entered = []; retrieved = []; dropped = ([], 1) ∷ [] }
-unfolding calls.run called_in moved retrieving answer row act_row family_row request_row settled
+unfolding calls.run called_in moved retrieving answer thing_row request_row on_activity on_containers on_shown on_family settled
 limit_met = refl
 
 no_limit : (budgeted (Abend (codes "OOPS")) (behind (activation run) (retrieves_initial ∷ []))).end ≡ None
-unfolding calls.run called_in moved retrieving answer row act_row family_row request_row settled
+unfolding calls.run called_in moved retrieving answer thing_row request_row on_activity on_containers on_shown on_family settled
 no_limit = refl
 
 -- ---- linked frames
@@ -233,7 +237,7 @@ in_its_own_frame : Gives (request undefined) (
       retrieved = ([], 1) ∷ [];
       dropped = [];
     }
-unfolding calls.run called_in moved retrieving answer row act_row family_row request_row settled
+unfolding calls.run called_in moved retrieving answer thing_row request_row on_activity on_containers on_shown on_family settled
 in_its_own_frame = refl
 
 abbrev child : Activity
@@ -265,7 +269,7 @@ run_gives_back : Gives (activation (with_a_child run)) (call_and_abend (command.
       retrieved = ([], 1) ∷ [];
       dropped = (1 ∷ [], 1) ∷ [];
     }
-unfolding calls.run called_in moved retrieving answer row act_row family_row request_row settled
+unfolding calls.run called_in moved retrieving answer thing_row request_row on_activity on_containers on_shown on_family settled
 run_gives_back = refl
 
 abbrev grandchild : Process → Process
@@ -280,7 +284,7 @@ link_gives_nothing_back : Gives (activation (with_a_child run)) (call_and_abend 
       retrieved = ([], 1) ∷ (1 ∷ [], 1) ∷ [];
       dropped = [];
     }
-unfolding calls.run called_in moved retrieving answer row act_row family_row request_row settled
+unfolding calls.run called_in moved retrieving answer thing_row request_row on_activity on_containers on_shown on_family settled
 link_gives_nothing_back = refl
 
 -- a limit that is met in an inner frame ends all, and the root alone abends
@@ -295,7 +299,7 @@ limit_in_an_inner_frame : seen (budgeted (Abend (codes "CMDS")) (behind (activat
       retrieved = [];
       dropped = ([], 1) ∷ [];
     }
-unfolding calls.run called_in moved retrieving answer row act_row family_row request_row settled
+unfolding calls.run called_in moved retrieving answer thing_row request_row on_activity on_containers on_shown on_family settled
 limit_in_an_inner_frame = refl
 
 -- a suspended child isn't run: its entry waits, and the frame stays the root's
@@ -311,7 +315,7 @@ waits : Gives (activation (edited (1 ∷ []) (λ a. record a { suspended = true 
       retrieved = ([], 1) ∷ [];
       dropped = [];
     }
-unfolding calls.run called_in moved retrieving answer row act_row family_row request_row settled
+unfolding calls.run called_in moved retrieving answer thing_row request_row on_activity on_containers on_shown on_family settled
 waits = refl
 
 -- ---- notices and expiries
@@ -362,15 +366,15 @@ abbrev first_activation : Ended
 first_activation = ended_unit (unit.Activation undefined.key []) Commit (retrieves_initial ∷ leaves leaving.Complete ∷ [])
 
 a_request_plays : Plays [] (defining Commit)
-unfolding calls.run called_in moved retrieving answer row act_row family_row request_row settled
+unfolding calls.run called_in moved retrieving answer thing_row request_row on_activity on_containers on_shown on_family settled
 a_request_plays = record { enabled = refl; given = record { calls = refl; end = refl } }
 
 its_process_stands : after [] (defining Commit) ≡ run ∷ []
-unfolding calls.run called_in moved retrieving answer row act_row family_row request_row settled
+unfolding calls.run called_in moved retrieving answer thing_row request_row on_activity on_containers on_shown on_family settled
 its_process_stands = refl
 
 its_activation_plays : Plays (run ∷ []) first_activation
-unfolding calls.run called_in moved retrieving answer row act_row family_row request_row settled
+unfolding calls.run called_in moved retrieving answer thing_row request_row on_activity on_containers on_shown on_family settled
 its_activation_plays = record { enabled = refl; given = record { calls = refl; end = refl } }
 
 nothing_is_put_back : after (run ∷ []) (ended_unit (unit.Request 2 undefined.key) Rollback (
@@ -378,7 +382,7 @@ nothing_is_put_back : after (run ∷ []) (ended_unit (unit.Request 2 undefined.k
     ∷ (command.Cancel target.AcqProcess answers ok)
     ∷ (command.Rollback answers ok)
     ∷ [])) ≡ run ∷ []
-unfolding calls.run called_in moved retrieving answer row act_row family_row request_row settled
+unfolding calls.run called_in moved retrieving answer thing_row request_row on_activity on_containers on_shown on_family settled
 nothing_is_put_back = refl
 
 -- an activity that has nothing to do isn't activated
@@ -387,7 +391,7 @@ not_enabled = refl
 
 -- a limit ends a unit that has no calls; and an item without a process has none
 limit_plays : Plays (run ∷ []) (ended_unit (unit.Activation undefined.key []) (Abend (codes "SIZE")) [])
-unfolding calls.run called_in moved retrieving answer row act_row family_row request_row settled
+unfolding calls.run called_in moved retrieving answer thing_row request_row on_activity on_containers on_shown on_family settled
 limit_plays = record { enabled = refl; given = record { calls = refl; end = refl } }
 
 settle_plays : Plays [] (ended_unit (unit.Settle 2) Commit [])
@@ -395,11 +399,11 @@ settle_plays = record { enabled = refl; given = record { calls = refl; end = ref
 
 -- the end of a unit is that of its calls, and no call stands behind it
 another_end : IsReplay (defining Rollback) undefined → false ≡ true
-unfolding calls.run called_in moved retrieving answer row act_row family_row request_row settled
+unfolding calls.run called_in moved retrieving answer thing_row request_row on_activity on_containers on_shown on_family settled
 another_end r = let e : Some Commit ≡ Some Rollback = r.end in cc
 
 call_behind_the_end : IsReplay (ended_unit (unit.Request 1 undefined.key) Commit (returns ∷ returns ∷ [])) undefined → false ≡ true
-unfolding calls.run called_in moved retrieving answer row act_row family_row request_row settled
+unfolding calls.run called_in moved retrieving answer thing_row request_row on_activity on_containers on_shown on_family settled
 call_behind_the_end r = let e : map call_of (returns ∷ []) ≡ map call_of (returns ∷ returns ∷ []) = r.calls in cc
 
 -- ---- why a unit isn't applied
@@ -408,7 +412,7 @@ unready_activation : IsCause (new ∷ []) (ended_unit (unit.Activation undefined
 unready_activation = inl (record { disabled = refl; uncounted = refl })
 
 end_alone_is_other : IsCause [] (defining Rollback) (error.NotLegal 0)
-unfolding calls.run called_in moved retrieving answer row act_row family_row request_row settled
+unfolding calls.run called_in moved retrieving answer thing_row request_row on_activity on_containers on_shown on_family settled
 end_alone_is_other = inr (record { enabled = refl; other = inr (record { calls = refl; end = λ e. cc; uncounted = refl }) })
 
 abbrev first_resp : Option Call → Resp
@@ -416,11 +420,11 @@ first_resp None = resp.End
 first_resp (Some c) = c.reply.resp
 
 first_reply_is_other : IsCause [] (ended_unit (unit.Request 1 undefined.key) Commit ((command.Return false answers refusal resp.Invreq reason.Place) ∷ [])) (error.NotLegal 1)
-unfolding calls.run called_in moved retrieving answer row act_row family_row request_row settled
+unfolding calls.run called_in moved retrieving answer thing_row request_row on_activity on_containers on_shown on_family settled
 first_reply_is_other = inr (record { enabled = refl; other = inl (record { same_before = refl; is_told = omega arith; other = λ e. let r : resp.Normal ≡ resp.Invreq = ap first_resp e in cc }) })
 
 second_call_is_behind_the_end : IsCause [] (ended_unit (unit.Request 1 undefined.key) Commit (returns ∷ returns ∷ [])) (error.NotLegal 2)
-unfolding calls.run called_in moved retrieving answer row act_row family_row request_row settled
+unfolding calls.run called_in moved retrieving answer thing_row request_row on_activity on_containers on_shown on_family settled
 second_call_is_behind_the_end = inr (record { enabled = refl; other = inl (record { same_before = refl; is_told = omega arith; other = λ e. cc }) })
 
 call_of_a_settle : IsCause [] (ended_unit (unit.Settle 2) Commit (returns ∷ [])) (error.NotLegal 1)

@@ -2,7 +2,7 @@ use Rattle.std.proofs.Common.{◌+◌, ◌≤◌, length, subst, arith}
 use Rattle.bts_interp.specs.Ready.{number_limit}
 use Rattle.bts_rows.specs.Bounds.{raised_by}
 use Rattle.bts_rows.proofs.Bounds.{within_more}
-use Rattle.bts_rows.proofs.GrowthRows.{raised_once}
+use Rattle.bts_rows.proofs.Acquiring.{raised_once}
 use Rattle.bts_interp.proofs.activation_tests.a_started_process.Goals as goal
 
 pub returns-clause-within : goal.returns-clause-within

@@ -1,4 +1,4 @@
-use Rattle.std.proofs.Common.{◌≡◌, ◌+◌, ◌^◌, ℕ, length, List, [], Option, Some, None, MatchOption, refl, sym, ap, ◌∙◌, subst}
+use Rattle.std.proofs.Common.{◌≡◌, ◌^◌, ℕ, List, [], Option, Some, None, MatchOption, refl, sym, ap, ◌∙◌, subst}
 use Rattle.bts_command.specs.declared.command.Call.{Call}
 use Rattle.bts_command.specs.declared.ended.Ended.{Ended}
 use Rattle.bts_tree.specs.Soundness.{IsSoundInFrames}

@@ -37,9 +37,6 @@ returns-in-Rollback-clause-ok c =
     subst (λ x. Steps w c.roll_back.new.work c.roll_back.result (called_on_top x)) (sym c.in-Rollback.is)
     (subst (λ y. Steps w y.1 y.0 (called_on_top command.Rollback)) (sym c.roll_back.ensures) (rolls w c.requires.open))
 
-pub step-requires-clause-goes_on : goal.step-requires-clause-goes_on
-step-requires-clause-goes_on c = ends_none c.args.command.now c.in_default.not-Return c.in_default.not-Abend c.in_default.not-Rollback
-
 pub returns-in_default : goal.returns-in_default
 returns-in_default c =
     let w = c.args.work.now in

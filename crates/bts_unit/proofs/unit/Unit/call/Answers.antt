@@ -1,12 +1,18 @@
-use Rattle.std.proofs.Common.{◌≤◌, ◌+◌, length, ◌++◌, [], ◌∷◌, is_none, sym, ap, ◌∙◌, subst}
+use Rattle.std.proofs.Common.{◌≡◌, ◌≤◌, ◌+◌, true, length, ◌++◌, [], ◌∷◌, is_none, sym, ap, ◌∙◌, subst}
 use Rattle.bts_command.specs.declared.command.Call.{Call}
 use Rattle.bts_unit.specs.Calls.{call}
-use Rattle.bts_unit.specs.Replays.{IsWorkOf, behind_calls}
+use Rattle.bts_unit.specs.OneFrame.{is_of_one_frame}
+use Rattle.bts_unit.specs.Replays.{IsWorkOf, behind_calls, top_path}
 use Rattle.bts_unit.specs.Soundness.{IsSoundLone, IsSoundUnit, IsSoundWithin}
 use Rattle.bts_unit.proofs.BoundedUnits.{calls_rise, stays_lone}
-use Rattle.bts_unit.proofs.Replayed.{few_frames, made, played}
+use Rattle.bts_unit.proofs.Replayed.{few_frames, made, played, same_top}
 use Rattle.bts_unit.proofs.SoundUnits.{stays_sound}
 use Rattle.bts_unit.proofs.unit.Unit.call.Goals as goal
+
+pub perform-requires-clause-one_frame : goal.perform-requires-clause-one_frame
+perform-requires-clause-one_frame c =
+    let u = c.self.inside in
+    subst (λ at. is_of_one_frame at c.args.command ≡ true) (sym (ap (λ v. top_path v.frames) c.self.view_is) ∙ same_top u.work u.calls.items u.stopped _ c.self.invariant) c.requires.one_frame
 
 pub invariant_of-self-2 : goal.invariant_of-self-2
 invariant_of-self-2 c =
