@@ -1,5 +1,5 @@
 -- What is left of a line, and what it gives a container, is no longer than the line.
-use Rattle.std.proofs.Common.{◌≡◌, ℕ, suc, ◌+◌, ◌-◌, ◌≤◌, Bool, true, false, List, [], ◌∷◌, ◌++◌, refl, arith, length, take, drop, reverse, position, cond, min, Option, Some, None, Result, Ok, Err}
+use Rattle.std.proofs.Common.{ℕ, ◌+◌, ◌-◌, ◌≤◌, Bool, true, false, [], ◌∷◌, arith, length, take, drop, reverse, position, cond, Option, Some, None, Result}
 use Rattle.std.specs.Prelude.{codes, nat_eq, ◌==◌}
 use Rattle.std.specs.Option.{option_map}
 use Rattle.std.specs.Str.{bytes_eq}

@@ -1,5 +1,5 @@
 -- No line gives a container more bytes than it has, or than FILL may say.
-use Rattle.std.proofs.Common.{◌≡◌, ℕ, suc, ◌+◌, ◌-◌, ◌≤◌, Bool, true, false, List, [], ◌∷◌, ◌++◌, refl, arith, length, cond, Option, Some, None, Result, Ok, Err}
+use Rattle.std.proofs.Common.{◌≡◌, ℕ, ◌+◌, ◌-◌, ◌≤◌, Bool, true, false, List, [], ◌∷◌, ◌++◌, refl, arith, length, cond, Option, Some, None}
 use Rattle.std.specs.Prelude.{codes, nat_le}
 use Rattle.std.specs.Option.{option_and_then, option_map}
 use Rattle.std.specs.Str.{bytes_eq}
@@ -13,17 +13,16 @@ use Rattle.bts_forms.specs.declared.statement.Statement.TheVariants as statement
 use Rattle.bts_forms.specs.declared.line.Line.{Line}
 use Rattle.bts_forms.specs.declared.line.Line.TheVariants as line
 use Rattle.bts_forms.specs.declared.line.Setting.{Setting}
-use Rattle.bts_forms.specs.declared.line.Word.{Word}
 use Rattle.bts_forms.specs.declared.line.Word.TheVariants as word
 use Rattle.bts_forms.specs.Texts.{◌>>=◌, behind_front, closed_by, number_in, number_within}
 use Rattle.bts_forms.specs.Arguments.{or_else, or_refused, fill_limit, fill_in, given_in, hex_pair, hex_pairs, last_in, literal_in, name, pairs_in, source, text_in, process_type, process_name, program_name, moment, mode, status}
 use Rattle.bts_forms.specs.Pieces.{Piece, Said, says, argument, argument_to_last, bare, given, given_to_last, maybe, ◌▸◌, ◌▹◌, ◌or◌}
-use Rattle.bts_forms.specs.Forms.{Form, Saying, forms, form_of, reads_by, command_of, statement_of, session_forms, script_forms, process_forms, activity_forms, container_forms, early_event_forms, late_event_forms, timer_forms, ending_forms, program_line, request_line, end_line, clock_line, settle_line, browse_line, label_line, goto_line, when_line, whether, put_container, condition, spot, target}
+use Rattle.bts_forms.specs.Forms.{Form, forms, form_of, reads_by, command_of, statement_of, session_forms, script_forms, process_forms, activity_forms, container_forms, early_event_forms, late_event_forms, timer_forms, ending_forms, program_line, request_line, end_line, clock_line, settle_line, browse_line, label_line, goto_line, when_line, whether, put_container, condition, spot, target}
 use Rattle.bts_forms.specs.Sizes.{IsShort, IsShortLine, said_bytes}
 use Rattle.bts_forms.proofs.AllForms.{Holds, next_holds, either_holds, reads_whole}
 use Rattle.bts_forms.proofs.Saying.{Of, Always, Behind, Unsaid, With, saying, anything, with_argument, ◌▸▸◌, ◌▹▹◌}
 use Rattle.bts_forms.proofs.ShortCommands.{PutsAtMost, in_define_process, in_acquire_process, in_acquire_activity, in_purge_process, in_define_activity, in_delete_activity, in_run, in_link, in_check, in_cancel, in_reset, in_suspend, in_resume, in_get_container, in_delete_container, in_define_input, in_define_composite, in_add_subevent, in_remove_subevent, in_delete_event, in_test_event, in_retrieve_reattach, in_retrieve_subevent, in_define_timer, in_force_timer, in_check_timer, in_delete_timer, in_plain_return, in_return_ending, in_abend, in_rollback}
-use Rattle.bts_forms.proofs.Short.{AtMost, Shortens, first, closed_short, either_short, given_short, last_argument_short, quoted_short, says_short, then_short, ◌▸≤◌, ◌▹≤◌}
+use Rattle.bts_forms.proofs.Short.{AtMost, Shortens, first, either_short, given_short, last_argument_short, quoted_short, says_short, then_short, ◌▸≤◌, ◌▹≤◌}
 use Rattle.bts_forms.proofs.Tables.{form_of_both}
 
 -- ---- what FROM takes

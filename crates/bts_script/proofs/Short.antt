@@ -1,14 +1,13 @@
 -- The lines of a text are no longer than it, and give containers no more.
-use Rattle.std.proofs.Common.{◌≡◌, ℕ, ◌+◌, ◌-◌, ◌≤◌, Bool, true, false, List, [], ◌∷◌, refl, arith, length, cond, Option, Some, None, Result, Ok, Err}
+use Rattle.std.proofs.Common.{ℕ, ◌+◌, ◌-◌, ◌≤◌, Bool, true, false, List, [], ◌∷◌, arith, length, cond, Option, Some, None, Ok, Err}
 use Rattle.std.specs.Prelude.{not, nat_eq, IfOk}
-use Rattle.std.specs.List.{AllByRecursion, enumerate_from, filter}
+use Rattle.std.specs.List.{AllByRecursion}
 use Rattle.bts_names.specs.Names.{Bytes}
 use Rattle.bts_forms.specs.declared.line.Place.{Place}
 use Rattle.bts_forms.specs.Arguments.{fill_limit}
 use Rattle.bts_forms.specs.Forms.{Saying, forms, form_of}
 use Rattle.bts_forms.specs.Sizes.{IsShortLine}
 use Rattle.bts_forms.specs.Texts.{without_spaces}
-use Rattle.bts_forms.specs.declared.line.Line.{Line}
 use Rattle.bts_forms.proofs.AllForms.{Holds}
 use Rattle.bts_forms.proofs.Short.{spaces_dropped}
 use Rattle.bts_forms.proofs.ShortLines.{all_short}

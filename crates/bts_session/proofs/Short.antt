@@ -1,5 +1,5 @@
 -- No statement of a session says more bytes for a container than the text may have.
-use Rattle.std.proofs.Common.{ℕ, ◌≤◌, arith, length}
+use Rattle.std.proofs.Common.{ℕ, arith, length}
 use Rattle.std.specs.Prelude.{IfOk}
 use Rattle.std.proofs.lemmas.Bool.{ltb-false}
 use Rattle.bts_names.specs.Names.{Bytes}

@@ -1,10 +1,10 @@
-use Rattle.std.proofs.Common.{◌≡◌, [], ◌∷◌, ◌+◌, ◌++◌, drop, subst, arith}
+use Rattle.std.proofs.Common.{◌≡◌, [], ◌+◌, ◌++◌, drop, subst, arith}
 use Rattle.std.proofs.lemmas.List.{append-nil}
 use Rattle.std.proofs.lemmas.Grind.{common_steps}
 use Rattle.std.specs.List.{flat_map, enumerate_from}
 use Rattle.bts_report.specs.Reports.{report, unit_text}
 use Rattle.bts_report.specs.Writing.{IsHeldBack}
-use Rattle.bts_report.proofs.Held.{front_of, goes_on, stops, stops_last}
+use Rattle.bts_report.proofs.Held.{goes_on, stops, stops_last}
 use Rattle.bts_report.proofs.writing.write_report.Goals as goal
 
 pub loop-ended-preserved : goal.loop-ended-preserved

@@ -1,4 +1,4 @@
-use Rattle.std.proofs.Common.{◌≡◌, ◌≤◌, ◌++◌, drop}
+use Rattle.std.proofs.Common.{◌≤◌, ◌++◌, drop}
 use Rattle.std.specs.List.{flat_map}
 use Rattle.bts_report.specs.Reports.{call_line}
 use Rattle.bts_report.specs.Writing.{IsHeldBack}
