@@ -1,5 +1,5 @@
 -- What holds of a row that isn't refused.
-use Rattle.std.proofs.Common.{◌≡◌, true, Option, Some, None, refl, sym, ap, ◌∙◌}
+use Rattle.std.proofs.Common.{◌≡◌, true, Option, Some, None, refl, ap, ◌∙◌}
 use Rattle.bts_names.specs.Names.{Name}
 use Rattle.bts_names.specs.Named.{lookup}
 use Rattle.bts_names.specs.Answer.{Answer, refuse◌for◌otherwise◌}

@@ -1,7 +1,7 @@
 -- The row of a command is the one on the thing that is found.
-use Rattle.std.proofs.Common.{◌≡◌, ℕ, ◌-◌, Some, Ok, Err, Result, refl, sym, subst}
+use Rattle.std.proofs.Common.{◌≡◌, ℕ, Some, Ok, Err, Result, refl, sym, subst}
 use Rattle.bts_names.specs.Names.{ActivityPath}
-use Rattle.bts_names.specs.Answer.{at_some, done, mapped}
+use Rattle.bts_names.specs.Answer.{at_some, mapped}
 use Rattle.bts_names.specs.declared.reply.Resp.TheVariants as resp
 use Rattle.bts_names.specs.declared.reply.Reason.TheVariants as reason
 use Rattle.bts_names.specs.declared.reply.Reply.{Reply}

@@ -1,5 +1,5 @@
 -- What a command on containers, events or timers doesn't read: how many frames are open, and what stands outside its activity.
-use Rattle.std.proofs.Common.{◌≡◌, ℕ, true, false, nat_le, Ok, Err, Result, refl}
+use Rattle.std.proofs.Common.{◌≡◌, ℕ, true, false, nat_le, refl}
 use Rattle.bts_names.specs.Names.{ActivityPath}
 use Rattle.bts_names.specs.Answer.{mapped}
 use Rattle.bts_command.specs.declared.command.Command.{Command}
@@ -11,7 +11,6 @@ use Rattle.bts_rows.specs.declared.places.Here.{Here}
 use Rattle.bts_rows.specs.declared.places.Here.TheVariants as here
 use Rattle.bts_rows.specs.declared.places.Thing.{Thing}
 use Rattle.bts_rows.specs.declared.places.Thing.TheVariants as thing
-use Rattle.bts_rows.specs.declared.places.Unfound.{Unfound}
 use Rattle.bts_rows.specs.Families.{rearms}
 use Rattle.bts_rows.specs.OnActivity.{on_activity}
 use Rattle.bts_rows.specs.Places.{about_of, at_found, find, is_family}

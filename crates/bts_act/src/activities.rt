@@ -1,7 +1,7 @@
 // The commands on one activity.
 ghost use Rattle.std.specs.Prelude.{◌≡◌, ◌<◌, ◌-◌, ◌^◌, IsTrue, false, true};
 ghost use Rattle.bts_command.specs.Given.{IsGiven};
-ghost use Rattle.bts_tree.specs.Scopes.{holding};
+ghost use Rattle.bts_tree.specs.Scopes.{LeavesMarks};
 ghost use Rattle.bts_tree.specs.Soundness.{numbers_below};
 ghost use Rattle.bts_rows.specs.OnActivity.{on_activity};
 ghost use Rattle.bts_rows.specs.Rows.{on_thing};
@@ -48,9 +48,8 @@ pub(crate) fn change_at(
     requires given { IsGiven command.now }
     ensures row { Does result scope.old.process scope.new.process
         (on_thing (thing.Activity path.now) depth moment scope.old.process command.now) }
-    ensures rest { scope.new ≡ holding scope.new.process scope.old }
+    ensures rest { LeavesMarks scope.old scope.new }
 {
-    scope.facts();
     let Some(activity) = scope.activity(path) else {
         return Ok(reply_of(Unfound::Missing));
     };

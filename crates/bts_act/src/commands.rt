@@ -4,7 +4,7 @@ ghost use Rattle.bts_names.specs.Names.{ActivityPath};
 ghost use Rattle.bts_command.specs.Given.{IsGiven};
 ghost use Rattle.bts_command.specs.Numbers.{command_number};
 ghost use Rattle.bts_tree.specs.Processes.{activity_at};
-ghost use Rattle.bts_tree.specs.Scopes.{holding};
+ghost use Rattle.bts_tree.specs.Scopes.{LeavesMarks};
 ghost use Rattle.bts_tree.specs.Soundness.{IsSoundInFrames, numbers_below};
 ghost use Rattle.bts_rows.specs.Places.{about_of, find};
 ghost use Rattle.bts_rows.specs.Rows.{act_at, on_thing, thing_row};
@@ -40,7 +40,7 @@ pub fn act(
     requires given { IsGiven command.now }
     ensures row { (depth : ℕ) → Does result scope.old.process scope.new.process
         (act_at at.now depth moment scope.old.process command.now) }
-    ensures rest { scope.new ≡ holding scope.new.process scope.old }
+    ensures rest { LeavesMarks scope.old scope.new }
     ensures kept { (frames : List ActivityPath) → IsSoundInFrames frames scope.old.process
         → IsSoundInFrames frames scope.new.process }
 {
@@ -66,9 +66,8 @@ pub fn perform(
     requires given { IsGiven command.now }
     ensures row { Does result scope.old.process scope.new.process
         (thing_row here.now depth moment scope.old.process command.now) }
-    ensures rest { scope.new ≡ holding scope.new.process scope.old }
+    ensures rest { LeavesMarks scope.old scope.new }
 {
-    scope.facts();
     match find(scope, here, &about(command)) {
         Ok(thing) => change(scope, alloc, here, &thing, depth, moment, command),
         Err(why) => Ok(reply_of(why)),
@@ -92,9 +91,8 @@ fn change(
     requires given { IsGiven command.now }
     ensures row { Does result scope.old.process scope.new.process
         (on_thing thing.now depth moment scope.old.process command.now) }
-    ensures rest { scope.new ≡ holding scope.new.process scope.old }
+    ensures rest { LeavesMarks scope.old scope.new }
 {
-    scope.facts();
     match thing {
         Thing::Activity(path) => change_at(scope, alloc, path, depth, moment, command),
         Thing::Family(path) => change_family(scope, here, path, command),

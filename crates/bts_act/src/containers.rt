@@ -2,7 +2,7 @@
 ghost use Rattle.std.specs.Prelude.{◌≡◌, true, false, Ok};
 ghost use Rattle.bts_names.specs.Answer.{mapped};
 ghost use Rattle.bts_tree.specs.Processes.{with_containers};
-ghost use Rattle.bts_tree.specs.Scopes.{holding};
+ghost use Rattle.bts_tree.specs.Scopes.{LeavesMarks};
 ghost use Rattle.bts_rows.specs.OnContainers as on;
 ghost use Rattle.bts_act.specs.Does.{Does, Reads, is_done};
 
@@ -21,9 +21,8 @@ pub(crate) fn change_process(
 ) -> Result<Reply, NoMemory>
     ensures row { Does result scope.old.process scope.new.process
         (mapped (λ x. with_containers x scope.old.process) (on.on_containers command.now scope.old.process.containers)) }
-    ensures rest { scope.new ≡ holding scope.new.process scope.old }
+    ensures rest { LeavesMarks scope.old scope.new }
 {
-    scope.facts();
     if let Some(reply) = refuses_change(scope.containers(), command) {
         return Ok(reply);
     }

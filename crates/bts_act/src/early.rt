@@ -3,13 +3,14 @@ ghost use Rattle.std.specs.Prelude.{◌≡◌, List, not, true};
 ghost use Rattle.std.specs.List.{list_all};
 ghost use Rattle.bts_names.specs.Names.{ActivityPath};
 ghost use Rattle.bts_tree.specs.Processes.{Process};
+ghost use Rattle.bts_tree.specs.Slots.{filled};
 ghost use Rattle.bts_tree.specs.Soundness.{IsSoundInFrames};
 ghost use Rattle.bts_act.specs.Early.{has_none_early, is_early, none_early, waits_for};
 
 use bts_event::{Event, Trigger};
 use bts_names::{Name16, Path};
 use bts_timer::TimerPool;
-use bts_tree::{Activity, Scope};
+use bts_tree::{Scope, Slot};
 use std::collections::BTreeMap;
 
 /// Whether no event of any activity is fired while its timer is UNEXPIRED, as in every sound process. Its time grows
@@ -17,19 +18,21 @@ use std::collections::BTreeMap;
 pub fn none_is_early(scope: &Scope) -> bool
     ensures { result ≡ none_early scope.now.process }
 {
-    match scope.tree() {
-        Some(tree) => all_late(tree.activities()),
+    match scope.activities() {
+        Some(activities) => all_late(activities),
         None => true,
     }
 }
 
-fn all_late(activities: &BTreeMap<Path, Activity>) -> bool
-    ensures { result ≡ list_all (λ x. has_none_early x.1) activities.now.entries }
+fn all_late(activities: &BTreeMap<Path, Slot>) -> bool
+    ensures { result ≡ list_all (λ x. has_none_early x.1) (filled activities.now.entries) }
 {
-    for (path, activity) in activities {
+    for (path, slot) in activities {
         let _ = path;
-        if !are_late(activity.pool.events(), &activity.timers) {
-            return false;
+        if let Some(activity) = slot.get() {
+            if !are_late(activity.pool.events(), &activity.timers) {
+                return false;
+            }
         }
     }
     true

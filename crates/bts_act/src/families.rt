@@ -1,10 +1,10 @@
 // The commands on a process, from an activity on.
-ghost use Rattle.std.specs.Prelude.{◌≡◌, ◌<◌, IsSome, IsTrue, Ok, true, ◌-◌, ◌^◌, OnOk, OnErr};
+ghost use Rattle.std.specs.Prelude.{◌≡◌, ◌<◌, IsSome, IsTrue, Ok, false, true, ◌-◌, ◌^◌, OnOk, OnErr};
 ghost use Rattle.bts_tree.specs.Activities as activities;
 ghost use Rattle.bts_tree.specs.Paths.{is_child_of, number_of, parent_of};
 ghost use Rattle.bts_names.specs.Answer.{mapped};
 ghost use Rattle.bts_tree.specs.Processes.{activity_at, child_of, edited, removed, with_pool};
-ghost use Rattle.bts_tree.specs.Scopes.{holding};
+ghost use Rattle.bts_tree.specs.Scopes.{holding, IsSaved, LeavesMarks};
 ghost use Rattle.bts_tree.specs.Soundness.{numbers_below};
 ghost use Rattle.bts_act.specs.Does.{Does};
 ghost use Rattle.bts_rows.specs.OnFamily as family;
@@ -37,9 +37,8 @@ pub(crate) fn change_family(
     requires built { IsTrue (is_built here.now command.now) }
     ensures row { Does result scope.old.process scope.new.process
         (at_path path.now scope.old.process (λ a. mapped (λ change. change scope.old.process) (family.on_family command.now path.now a scope.old.process))) }
-    ensures rest { scope.new ≡ holding scope.new.process scope.old }
+    ensures rest { LeavesMarks scope.old scope.new }
 {
-    scope.facts();
     if scope.activity(path).is_none() {
         return Ok(reply_of(Unfound::Missing));
     }
@@ -57,9 +56,8 @@ fn cancel(scope: &mut Scope, path: &Path) -> Result<Reply, NoMemory>
     requires { IsSome (activity_at path.now scope.old.process) }
     ensures row { Does result scope.old.process scope.new.process
         (at_path path.now scope.old.process (λ a. mapped (λ change. change scope.old.process) (family.cancel path.now a))) }
-    ensures rest { scope.new ≡ holding scope.new.process scope.old }
+    ensures rest { LeavesMarks scope.old scope.new }
 {
-    scope.facts();
     if scope.activity(path).unwrap().is_complete() {
         return Ok(refused(Resp::Activityerr, Reason::Mode));
     }
@@ -74,7 +72,7 @@ fn delete_activity(scope: &mut Scope, at: &Path, name: &Name16) -> Result<Reply,
     requires numbers { IsTrue (numbers_below (2 ^ 64 - 1) scope.old.process) }
     ensures row { Does result scope.old.process scope.new.process
         (at_path at.now scope.old.process (λ a. mapped (λ change. change scope.old.process) (family.delete_activity (child_of at.now name.now scope.old.process)))) }
-    ensures rest { scope.new ≡ holding scope.new.process scope.old }
+    ensures rest { LeavesMarks scope.old scope.new }
 {
     delete_child(scope, at, name)
 }
@@ -84,9 +82,8 @@ fn delete_child(scope: &mut Scope, at: &Path, name: &Name16) -> Result<Reply, No
     requires numbers { IsTrue (numbers_below (2 ^ 64 - 1) scope.old.process) }
     ensures row { Does result scope.old.process scope.new.process
         (mapped (λ change. change scope.old.process) (family.delete_activity (child_of at.now name.now scope.old.process))) }
-    ensures rest { scope.new ≡ holding scope.new.process scope.old }
+    ensures rest { LeavesMarks scope.old scope.new }
 {
-    scope.facts();
     match resting_child(scope, at, name) {
         Ok(path) => {
             remove_child(scope, at, &path)?;
@@ -124,14 +121,13 @@ fn remove_child(scope: &mut Scope, at: &Path, path: &Path) -> Result<(), NoMemor
     requires child { is_child_of at.now path.now ≡ true }
     requires there { IsSome (activity_at path.now scope.old.process) }
     requires numbers { IsTrue (numbers_below (2 ^ 64 - 1) scope.old.process) }
-    ensures ok { OnOk result (scope.new ≡ holding (without_completion path.now (removed path.now true scope.old.process)) scope.old) }
-    ensures err { OnErr result (scope.new ≡ scope.old) }
+    ensures ok { OnOk result (scope.new.process ≡ without_completion path.now (removed path.now true scope.old.process)) }
+    ensures err { OnErr result (scope.new.process ≡ scope.old.process) }
+    ensures rest { LeavesMarks scope.old scope.new }
 {
-    scope.facts();
     scope.save(at, false)?;
     scope.save(path, true)?;
     forget_child(scope, at, last_number(path))?;
-    scope.facts();
     scope.remove_below(path, true);
     Ok(())
 }
@@ -143,9 +139,8 @@ fn check_child(scope: &mut Scope, at: &Path, path: &Path) -> Result<Reply, NoMem
     requires numbers { IsTrue (numbers_below (2 ^ 64 - 1) scope.old.process) }
     ensures row { Does result scope.old.process scope.new.process
         (at_path path.now scope.old.process (λ a. mapped (λ change. change scope.old.process) (family.check_child path.now a))) }
-    ensures rest { scope.new ≡ holding scope.new.process scope.old }
+    ensures rest { LeavesMarks scope.old scope.new }
 {
-    scope.facts();
     let child = scope.activity(path).unwrap();
     let reply = check_activity(child);
     if child.is_complete() {
@@ -158,10 +153,10 @@ fn check_child(scope: &mut Scope, at: &Path, path: &Path) -> Result<Reply, NoMem
 fn tell(scope: &mut Scope, at: &Path, path: &Path) -> Result<(), NoMemory>
     requires parent { parent_of path.now ≡ at.now }
     requires numbers { IsTrue (numbers_below (2 ^ 64 - 1) scope.old.process) }
-    ensures ok { OnOk result (scope.new ≡ holding (family.told path.now scope.old.process) scope.old) }
-    ensures err { OnErr result (scope.new ≡ scope.old) }
+    ensures ok { OnOk result (scope.new.process ≡ family.told path.now scope.old.process) }
+    ensures err { OnErr result (scope.new.process ≡ scope.old.process) }
+    ensures rest { LeavesMarks scope.old scope.new }
 {
-    scope.facts();
     scope.save(at, false)?;
     scope.save(path, false)?;
     forget_child(scope, at, last_number(path))?;
@@ -181,11 +176,11 @@ fn path_of_frame(here: &Here) -> Path
 
 /// The completion event of a child goes.
 fn forget_child(scope: &mut Scope, at: &Path, child: u32) -> Result<(), NoMemory>
-    requires { IsTrue (numbers_below (2 ^ 64 - 1) scope.old.process) }
+    requires saved { IsSaved at.now false scope.old }
+    requires numbers { IsTrue (numbers_below (2 ^ 64 - 1) scope.old.process) }
     ensures ok { OnOk result (scope.new ≡ holding (with_pool at.now (without_child child) scope.old.process) scope.old) }
     ensures err { OnErr result (scope.new ≡ scope.old) }
 {
-    scope.facts();
     if scope.activity(at).is_none() {
         return Ok(());
     }
@@ -206,9 +201,9 @@ fn remove_completion(pool: &mut EventPool, child: u32) -> Result<(), NoMemory>
 }
 
 fn set_told(scope: &mut Scope, path: &Path)
+    requires { IsSaved path.now false scope.old }
     ensures { scope.new ≡ holding (edited path.now family.as_told scope.old.process) scope.old }
 {
-    scope.facts();
     if scope.activity(path).is_some() {
         let activity = scope.edit(path);
         activity.told = true;

@@ -2,6 +2,7 @@
 ghost use Rattle.std.specs.Prelude.{◌≡◌, IsTrue, IfSome, not, ◌&&◌, ◌-◌, ◌^◌, nat_le, nat_lt};
 ghost use Rattle.std.specs.List.{list_all};
 ghost use Rattle.bts_command.specs.Numbers.{command_number};
+ghost use Rattle.bts_tree.specs.Slots.{filled};
 ghost use Rattle.bts_tree.specs.Soundness.{numbers_below};
 ghost use Rattle.bts_command.specs.Given.{IsGiven, is_systems};
 
@@ -13,7 +14,7 @@ use bts_names::{
     TimerStatus, Transid, Value,
 };
 use bts_timer::TimerPool;
-use bts_tree::{Activity, Scope};
+use bts_tree::{Activity, Scope, Slot};
 use std::alloc::Global;
 use std::collections::BTreeMap;
 use std::test::Fail;
@@ -76,19 +77,21 @@ pub(crate) fn root_scope(alloc: Global) -> Option<Scope> {
 pub(crate) fn numbered(scope: &Scope) -> bool
     ensures { IsTrue result → IsTrue (numbers_below (2 ^ 64 - 1) scope.now.process) }
 {
-    match scope.tree() {
-        Some(tree) => all_numbered(tree.activities()),
+    match scope.activities() {
+        Some(activities) => all_numbered(activities),
         None => true,
     }
 }
 
-fn all_numbered(activities: &BTreeMap<Path, Activity>) -> bool
-    ensures { result ≡ list_all (λ x. nat_lt x.1.pool.last (2 ^ 64 - 1)) activities.now.entries }
+fn all_numbered(activities: &BTreeMap<Path, Slot>) -> bool
+    ensures { result ≡ list_all (λ x. nat_lt x.1.pool.last (2 ^ 64 - 1)) (filled activities.now.entries) }
 {
-    for (path, activity) in activities {
+    for (path, slot) in activities {
         let _ = path;
-        if activity.pool.last_number() == u64::MAX {
-            return false;
+        if let Some(activity) = slot.get() {
+            if activity.pool.last_number() == u64::MAX {
+                return false;
+            }
         }
     }
     true

@@ -1,11 +1,8 @@
 // The rounds that are measured.
-ghost use Rattle.std.specs.Prelude.{◌≡◌, length};
-ghost use Rattle.bts_tree.specs.Processes.{activities};
-
 use crate::fault::Fault;
 use crate::growth::put;
 use bts_names::{Key, Path};
-use bts_tree::{Repository, Scope};
+use bts_tree::Repository;
 use std::alloc::Global;
 use std::fmt;
 
@@ -34,17 +31,8 @@ pub fn play(alloc: Global, repo: &mut Repository, key: &Key, rounds: u32) -> Res
         if repo.same(&scope) {
             done.same = done.same.saturating_add(1);
         }
-        done.copied = done.copied.saturating_add(count(&scope) as u64);
+        done.copied = done.copied.saturating_add(scope.count() as u64);
         put(repo, scope)?;
     }
     Ok(done)
-}
-
-fn count(scope: &Scope) -> usize
-    ensures { result ≡ length (activities scope.now.process) }
-{
-    match scope.tree() {
-        Some(tree) => tree.len(),
-        None => 0,
-    }
 }

@@ -6,10 +6,11 @@ ghost use Rattle.bts_index.specs.Indexes.{HaveRoom, has_key, is_awake, ready_at}
 ghost use Rattle.bts_names.specs.declared.key.Key.{Key};
 ghost use Rattle.bts_tree.specs.Activities.{is_ready};
 ghost use Rattle.bts_tree.specs.Repositories.{chosen_at, same_key};
+ghost use Rattle.bts_tree.specs.Slots.{filled};
 ghost use Rattle.bts_tree.specs.Soundness.{AreSound};
 
 use bts_names::{Key, NoMemory, Path};
-use bts_tree::{Activity, Repository};
+use bts_tree::{Repository, Slot};
 use std::alloc::Global;
 use std::collections::{BTreeMap, BTreeSet};
 
@@ -70,12 +71,15 @@ pub(crate) fn first_of(repository: &Repository, key: &Key) -> Option<Path>
     }
 }
 
-fn first_in(activities: &BTreeMap<Path, Activity>) -> Option<Path>
-    ensures { (key : Key) → option_map (λ p. (key, p)) result ≡ slice_get (chosen_at is_ready key activities.now.entries) 0 }
+fn first_in(activities: &BTreeMap<Path, Slot>) -> Option<Path>
+    ensures { (key : Key) → option_map (λ p. (key, p)) result
+        ≡ slice_get (chosen_at is_ready key (filled activities.now.entries)) 0 }
 {
-    for (path, activity) in activities {
-        if activity.is_ready() {
-            return Some(*path);
+    for (path, slot) in activities {
+        if let Some(activity) = slot.get() {
+            if activity.is_ready() {
+                return Some(*path);
+            }
         }
     }
     None

@@ -1,6 +1,6 @@
 // The commands in a request's first frame.
 ghost use Rattle.std.specs.Prelude.{◌≡◌, ◌<◌, ◌-◌, ◌^◌, [], IsTrue, false};
-ghost use Rattle.bts_tree.specs.Scopes.{holding};
+ghost use Rattle.bts_tree.specs.Scopes.{LeavesMarks};
 ghost use Rattle.bts_tree.specs.Soundness.{IsSoundInFrames, numbers_below};
 ghost use Rattle.bts_command.specs.Given.{IsGiven};
 ghost use Rattle.bts_rows.specs.Families.{resets};
@@ -35,7 +35,7 @@ pub fn request(
     requires given { IsGiven command.now }
     ensures row { Does result (scope.old.process, held.old) (scope.new.process, held.new)
         (request_in held.old depth moment scope.old.process command.now) }
-    ensures rest { scope.new ≡ holding scope.new.process scope.old }
+    ensures rest { LeavesMarks scope.old scope.new }
     ensures kept { IsSoundInFrames [] scope.old.process → IsSoundInFrames [] scope.new.process }
 {
     do_command(scope, alloc, held, depth, moment, command)
@@ -57,7 +57,7 @@ fn do_command(
     requires given { IsGiven command.now }
     ensures row { Does result (scope.old.process, held.old) (scope.new.process, held.new)
         (request_in held.old depth moment scope.old.process command.now) }
-    ensures rest { scope.new ≡ holding scope.new.process scope.old }
+    ensures rest { LeavesMarks scope.old scope.new }
 {
     match command {
         Command::DefineProcess { transid, program } => {

@@ -6,9 +6,13 @@
 
 mod acquiring;
 mod commands;
+mod laws;
 
 pub use bts_rows::Held;
 pub use commands::request;
+pub use laws::back_to_undoes_all_commands;
 
 #[cfg(test)]
 mod tests;
+#[cfg(test)]
+mod undo_tests;

@@ -1,6 +1,7 @@
 // What no clause says: that commands succeed where there is memory, and in the tables' order.
 ghost use Rattle.std.specs.Prelude.{◌≡◌, ◌&&◌, ◌-◌, ◌^◌, IsTrue, IfSome, false, not, nat_lt};
 ghost use Rattle.std.specs.List.{list_all, list_any};
+ghost use Rattle.bts_tree.specs.Slots.{filled};
 ghost use Rattle.bts_tree.specs.Soundness.{numbers_below};
 ghost use Rattle.bts_command.specs.Given.{IsGiven, is_systems, names_of_spot, names_of_target};
 ghost use Rattle.bts_rows.specs.Families.{resets};
@@ -13,7 +14,7 @@ use bts_names::{
     Transid, Value,
 };
 use bts_rows::Held;
-use bts_tree::{Activity, Scope};
+use bts_tree::{Activity, Scope, Slot};
 use std::alloc::Global;
 use std::collections::BTreeMap;
 use std::test::Fail;
@@ -23,7 +24,7 @@ const LONG: usize = 32_769;
 
 /// Where something is done.
 #[derive(Clone, Copy)]
-enum At {
+pub(crate) enum At {
     Own,
     Process,
     Child,
@@ -33,7 +34,7 @@ enum At {
 
 /// What is done: by a command, or from outside.
 #[derive(Clone, Copy)]
-enum Step {
+pub(crate) enum Step {
     Define,
     Acquire,
     AcquireRoot,
@@ -73,40 +74,42 @@ enum Want {
     Refused(Resp, Reason),
 }
 
-fn named(text: &str) -> Name16 {
+pub(crate) fn named(text: &str) -> Name16 {
     Name16::read(text.as_bytes()).unwrap_or(Name16::root())
 }
 
-fn is_free(name: Name16) -> bool
+pub(crate) fn is_free(name: Name16) -> bool
     ensures { IsTrue result → IsTrue (not (is_systems name)) }
 {
     name != Name16::initial() && name != Name16::root()
 }
 
 /// Whether every last entry number is below the last of all.
-fn numbered(scope: &Scope) -> bool
+pub(crate) fn numbered(scope: &Scope) -> bool
     ensures { IsTrue result → IsTrue (numbers_below (2 ^ 64 - 1) scope.now.process) }
 {
-    match scope.tree() {
-        Some(tree) => all_numbered(tree.activities()),
+    match scope.activities() {
+        Some(activities) => all_numbered(activities),
         None => true,
     }
 }
 
-fn all_numbered(activities: &BTreeMap<Path, Activity>) -> bool
-    ensures { result ≡ list_all (λ x. nat_lt x.1.pool.last (2 ^ 64 - 1)) activities.now.entries }
+fn all_numbered(activities: &BTreeMap<Path, Slot>) -> bool
+    ensures { result ≡ list_all (λ x. nat_lt x.1.pool.last (2 ^ 64 - 1)) (filled activities.now.entries) }
 {
-    for (path, activity) in activities {
+    for (path, slot) in activities {
         let _ = path;
-        if activity.pool.last_number() == u64::MAX {
-            return false;
+        if let Some(activity) = slot.get() {
+            if activity.pool.last_number() == u64::MAX {
+                return false;
+            }
         }
     }
     true
 }
 
 /// The command of a step that is one.
-fn command_of(alloc: Global, step: Step) -> Option<Command>
+pub(crate) fn command_of(alloc: Global, step: Step) -> Option<Command>
     ensures given { IfSome result (λ c. IsGiven c) }
     ensures today { IfSome result (λ c. resets c ≡ false) }
 {
@@ -419,7 +422,7 @@ fn goes(alloc: Global, scope: &mut Scope, held: &mut Held, step: Step, want: Wan
     }
 }
 
-fn undefined(alloc: Global) -> Option<Scope> {
+pub(crate) fn undefined(alloc: Global) -> Option<Scope> {
     let key = Key {
         ptype: ProcType::read(b"ORDERS".as_slice()).ok()?,
         pname: ProcName::read(b"P7".as_slice()).ok()?,

@@ -1,8 +1,16 @@
+pub mod Added
 pub mod Alike
+pub mod Behind
+pub mod Changed
 pub mod Finds
 pub mod Least
+pub mod Marked
 pub mod New
+pub mod Newest
 pub mod Orders
 pub mod Paths
 pub mod Retained
+pub mod Saved
 pub mod Slots
+pub mod Slotted
+pub mod Undone

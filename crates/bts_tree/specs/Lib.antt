@@ -3,9 +3,12 @@ pub mod Fields
 pub mod Keeping
 pub mod Lending
 pub mod Modes
+pub mod Newest
+pub mod Olds
 pub mod Leading
 pub mod Paths
 pub mod Processes
 pub mod Repositories
 pub mod Scopes
+pub mod Slots
 pub mod Soundness

@@ -1,10 +1,11 @@
 // A walk over all processes for timers that are due.
-ghost use Rattle.std.specs.Prelude.{◌≡◌, Some, None};
+ghost use Rattle.std.specs.Prelude.{◌≡◌, [], Some, None};
 ghost use Rattle.std.specs.Option.{option_map, option_to_list};
 ghost use Rattle.bts_tree.specs.Keeping as keeping;
 ghost use Rattle.bts_tree.specs.Repositories as repo;
+ghost use Rattle.bts_tree.specs.Slots.{filled, in_slot};
 
-use crate::Activity;
+use crate::Slot;
 use crate::kept::Kept;
 use bts_names::{Key, Moment, Name16, Path};
 use bts_timer::{Timer, TimerPool};
@@ -47,19 +48,34 @@ fn due_in_slot(
 
 fn due_in_tree(
     key: &Key,
-    activities: &BTreeMap<Path, Activity>,
+    activities: &BTreeMap<Path, Slot>,
     now: Moment,
     after: &Option<(Key, Path, Name16)>,
 ) -> Option<(Key, Path, Name16)>
     ensures { result ≡ repo.first_behind repo.timer_place_cmp after.now
-        (repo.due_among now key.now activities.now.entries) }
+        (repo.due_among now key.now (filled activities.now.entries)) }
 {
-    for (path, activity) in activities {
-        if let Some(name) = due_in_pool(key, path, &activity.timers, now, after) {
+    for (path, slot) in activities {
+        if let Some(name) = due_at(key, path, slot, now, after) {
             return Some((*key, *path, name));
         }
     }
     None
+}
+
+fn due_at(
+    key: &Key,
+    path: &Path,
+    slot: &Slot,
+    now: Moment,
+    after: &Option<(Key, Path, Name16)>,
+) -> Option<Name16>
+    ensures { option_map (λ n. (key.now, path.now, n)) result
+        ≡ repo.first_behind repo.timer_place_cmp after.now
+        (repo.due_among now key.now (in_slot path.now slot.now [])) }
+{
+    let activity = slot.get()?;
+    due_in_pool(key, path, &activity.timers, now, after)
 }
 
 fn due_in_pool(

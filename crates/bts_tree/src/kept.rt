@@ -1,6 +1,5 @@
 // What a repository holds under a key.
 ghost use Rattle.std.specs.Prelude.{◌≡◌, ◌↔◌, IsTrue, IfOk, None, Some};
-ghost use Rattle.std.specs.Option.{option_copied};
 ghost use Rattle.bts_tree.specs.Keeping as keeping;
 ghost use Rattle.bts_tree.specs.Scopes.{held_whole};
 
@@ -30,7 +29,7 @@ impl Kept {
         })
     }
 
-    pub fn into_scope(self, key: Key) -> Scope
+    pub fn into_scope(self, alloc: Global, key: Key) -> Scope
         ensures { result ≡ held_whole (keeping.process_of key self) }
     {
         let Kept {
@@ -38,7 +37,7 @@ impl Kept {
             tree,
             containers,
         } = self;
-        Scope::from_parts(key, generation, tree, containers)
+        Scope::from_parts(alloc, key, generation, tree, containers)
     }
 
     /// Whether it is the scope's process, under the scope's key.
@@ -47,7 +46,7 @@ impl Kept {
             ↔ (keeping.process_of scope.now.process.key self.now ≡ scope.now.process) }
     {
         self.generation == scope.generation()
-            && same_trees(&self.tree, scope.tree())
+            && scope.has_same_tree(&self.tree)
             && self.containers.same(scope.containers())
     }
 }
@@ -73,7 +72,7 @@ pub(crate) fn kept_of(scope: Scope) -> Kept
     }
 }
 
-pub(crate) fn copy_tree(alloc: Global, tree: &Option<Tree>) -> Result<Option<Tree>, NoMemory>
+fn copy_tree(alloc: Global, tree: &Option<Tree>) -> Result<Option<Tree>, NoMemory>
     ensures { IfOk result (λ copy. copy ≡ tree.now) }
 {
     match tree {
@@ -82,15 +81,5 @@ pub(crate) fn copy_tree(alloc: Global, tree: &Option<Tree>) -> Result<Option<Tre
             let copy = tree.copy(alloc)?;
             Ok(Some(copy))
         }
-    }
-}
-
-fn same_trees(a: &Option<Tree>, b: Option<&Tree>) -> bool
-    ensures { IsTrue result ↔ (a.now ≡ option_copied b.entry) }
-{
-    match (a, b) {
-        (None, None) => true,
-        (Some(a), Some(b)) => a.same(b),
-        _ => false,
     }
 }

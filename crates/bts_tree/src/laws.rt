@@ -1,5 +1,5 @@
 // What holds of the definitions that contracts cite. The functions do nothing.
-ghost use Rattle.std.specs.Prelude.{◌≡◌, ℕ, Bool, List, [], Option, Some, None, true, false};
+ghost use Rattle.std.specs.Prelude.{◌≡◌, ℕ, Bool, List, [], length, Option, Some, None, true, false};
 ghost use Rattle.std.specs.List.Sorted.{IsStrictlySortedBy};
 ghost use Rattle.bts_names.specs.Names.{Name};
 ghost use Rattle.bts_names.specs.declared.key.Key.{Key};
@@ -9,6 +9,7 @@ ghost use Rattle.bts_tree.specs.Modes.{finishes, abends, is_forced};
 ghost use Rattle.bts_tree.specs.declared.activity.Activity.{Activity};
 ghost use Rattle.bts_tree.specs.Processes.{no_process, planted};
 ghost use Rattle.bts_tree.specs.Repositories.{Processes, Place, TimerPlace, place_cmp, timer_place_cmp, ready_in, untold_in, due_in, first_behind, IsLeastBehind, HasNoneBehind};
+ghost use Rattle.bts_tree.specs.Scopes.{HeldProcess, AreSteps, gone_back, last_held, marked};
 ghost use Rattle.bts_tree.specs.Soundness.{AreSound, IsSoundInFrames};
 
 /// Where processes are sound, the activities for which an activation is enabled stand by rising key and path, and
@@ -18,6 +19,13 @@ pub fn what_is_enabled_stands_in_order()
     ensures untold { (repo : Processes) → AreSound repo → IsStrictlySortedBy place_cmp (untold_in repo) }
     ensures due { (now : ℕ) (repo : Processes) → AreSound repo
         → IsStrictlySortedBy timer_place_cmp (due_in now repo) }
+{}
+
+/// Behind a mark, and any calls that leave the marks as they are, add marks, or go back to later marks or keep
+/// them, `back_to` gives the process, the marks and the saved paths as they were.
+pub fn back_to_gives_what_was_marked()
+    ensures { (h : HeldProcess) (calls : List HeldProcess) → AreSteps (length h.marks) (marked h) calls
+        → gone_back (length h.marks) (last_held (marked h) calls) ≡ h }
 {}
 
 /// In such a list the first one that stands behind a place is the least one behind it, and none is found only

@@ -2,9 +2,10 @@
 ghost use Rattle.std.specs.Prelude.{◌≡◌, ◌++◌, IfOk, OnOk, map};
 ghost use Rattle.bts_tree.specs.Keeping as keeping;
 ghost use Rattle.bts_tree.specs.Repositories as repo;
+ghost use Rattle.bts_tree.specs.Slots.{filled};
 
-use crate::Activity;
 use crate::kept::Kept;
+use crate::{Activity, Slot};
 use bts_names::{Key, NoMemory, Path, Row, Rows};
 use std::alloc::Global;
 use std::collections::BTreeMap;
@@ -39,13 +40,15 @@ fn add_tree(
     rows: &mut Rows,
     key: &Key,
     generation: u64,
-    activities: &BTreeMap<Path, Activity>,
+    activities: &BTreeMap<Path, Slot>,
 ) -> Result<(), NoMemory>
     ensures { OnOk result (rows.new
-        ≡ rows.old ++ map (repo.row_of key.now generation) activities.now.entries) }
+        ≡ rows.old ++ map (repo.row_of key.now generation) (filled activities.now.entries)) }
 {
-    for (path, activity) in activities {
-        rows.push(row_of(key, generation, path, activity))?;
+    for (path, slot) in activities {
+        if let Some(activity) = slot.get() {
+            rows.push(row_of(key, generation, path, activity))?;
+        }
     }
     Ok(())
 }

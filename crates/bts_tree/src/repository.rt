@@ -149,7 +149,7 @@ impl Repository {
         match kept(&self.map, key) {
             Some(kept) => {
                 let copy = kept.copy(alloc)?;
-                Ok(copy.into_scope(*key))
+                Ok(copy.into_scope(alloc, *key))
             }
             None => Ok(Scope::undefined(alloc, *key)),
         }

@@ -7,7 +7,7 @@ use bts_names::{
 use std::alloc::Global;
 use std::test::Fail;
 
-fn key_named(text: &str) -> Option<Key> {
+pub(crate) fn key_named(text: &str) -> Option<Key> {
     Some(Key {
         ptype: ProcType::read(b"T".as_slice()).ok()?,
         pname: ProcName::read(text.as_bytes()).ok()?,
@@ -18,7 +18,7 @@ fn named(text: &str) -> Name16 {
     Name16::read(text.as_bytes()).unwrap_or(Name16::root())
 }
 
-fn below(path: Path, number: u32) -> Path {
+pub(crate) fn below(path: Path, number: u32) -> Path {
     path.child(number).unwrap_or(path)
 }
 
@@ -28,7 +28,7 @@ fn activity_named(alloc: Global, text: &str) -> Option<Activity> {
     Some(Activity::new(alloc, named(text), transid, program, Some(named("E"))))
 }
 
-fn plants(alloc: Global, scope: &mut Scope) -> bool {
+pub(crate) fn plants(alloc: Global, scope: &mut Scope) -> bool {
     let Ok(transid) = Transid::read(b"T".as_slice()) else {
         return false;
     };
@@ -42,7 +42,13 @@ fn plants(alloc: Global, scope: &mut Scope) -> bool {
     scope.plant(alloc, root).is_ok()
 }
 
-fn adds(alloc: Global, scope: &mut Scope, parent: &Path, number: u32, text: &str) -> bool {
+pub(crate) fn adds(
+    alloc: Global,
+    scope: &mut Scope,
+    parent: &Path,
+    number: u32,
+    text: &str,
+) -> bool {
     let Some(path) = parent.child(number) else {
         return false;
     };
@@ -55,7 +61,7 @@ fn adds(alloc: Global, scope: &mut Scope, parent: &Path, number: u32, text: &str
     scope.add(&path, activity).is_ok()
 }
 
-fn waits(scope: &mut Scope, path: &Path) -> bool {
+pub(crate) fn waits(scope: &mut Scope, path: &Path) -> bool {
     if scope.save(path, false).is_err() || scope.activity(path).is_none() {
         return false;
     }
@@ -70,7 +76,7 @@ fn times(scope: &mut Scope, path: &Path, due: Moment) -> bool {
     scope.edit(path).timers.define(named("T1"), due).is_ok()
 }
 
-fn completes(scope: &mut Scope, path: &Path) -> bool {
+pub(crate) fn completes(scope: &mut Scope, path: &Path) -> bool {
     if scope.save(path, true).is_err() || scope.activity(path).is_none() {
         return false;
     }
@@ -78,7 +84,7 @@ fn completes(scope: &mut Scope, path: &Path) -> bool {
     true
 }
 
-fn removes(scope: &mut Scope, path: &Path, itself: bool) -> bool {
+pub(crate) fn removes(scope: &mut Scope, path: &Path, itself: bool) -> bool {
     if scope.save(path, true).is_err() || scope.activity(path).is_none() {
         return false;
     }
@@ -86,7 +92,7 @@ fn removes(scope: &mut Scope, path: &Path, itself: bool) -> bool {
     true
 }
 
-fn puts(repo: &mut Repository, scope: Scope) -> bool {
+pub(crate) fn puts(repo: &mut Repository, scope: Scope) -> bool {
     if repo.reserve_for(&scope.key()).is_err() {
         return false;
     }
@@ -95,20 +101,13 @@ fn puts(repo: &mut Repository, scope: Scope) -> bool {
 }
 
 /// A root with the children 1 and 2, and 1/1 below the first.
-fn grows(alloc: Global, scope: &mut Scope) -> bool {
+pub(crate) fn grows(alloc: Global, scope: &mut Scope) -> bool {
     let root = Path::root();
     let first = below(root, 1);
     plants(alloc, scope)
         && adds(alloc, scope, &root, 1, "C1")
         && adds(alloc, scope, &root, 2, "C2")
         && adds(alloc, scope, &first, 1, "C11")
-}
-
-fn count(scope: &Scope) -> usize {
-    match scope.tree() {
-        Some(tree) => tree.len(),
-        None => 0,
-    }
 }
 
 #[test]
@@ -118,10 +117,10 @@ fn a_process_grows_and_shrinks(rt: HostRuntime) -> Result<(), Fail> {
     let mut scope = Scope::undefined(alloc, key);
     assert!(rt; grows(alloc, &mut scope));
     assert_eq!(rt; scope.generation(), 1);
-    assert_eq!(rt; count(&scope), 4);
+    assert_eq!(rt; scope.count(), 4);
     let first = below(Path::root(), 1);
     assert!(rt; removes(&mut scope, &first, false));
-    assert_eq!(rt; count(&scope), 3);
+    assert_eq!(rt; scope.count(), 3);
     assert!(rt; removes(&mut scope, &Path::root(), true));
     assert!(rt; !scope.has_tree());
     Ok(())
@@ -159,8 +158,8 @@ fn children_are_found_and_complete(rt: HostRuntime) -> Result<(), Fail> {
     Ok(())
 }
 
-fn reads_its_tree(alloc: Global, scope: &Scope) -> bool {
-    let Some(tree) = scope.tree() else {
+fn reads_its_tree(alloc: Global, repo: &Repository, key: &Key) -> bool {
+    let Some(tree) = repo.tree(key) else {
         return false;
     };
     tree.facts();
@@ -185,11 +184,13 @@ fn a_tree_is_read_and_copied(rt: HostRuntime) -> Result<(), Fail> {
     let mut scope = Scope::undefined(alloc, key);
     assert!(rt; grows(alloc, &mut scope));
     scope.facts();
-    assert!(rt; reads_its_tree(alloc, &scope));
+    let mut repo = Repository::empty(alloc);
+    assert!(rt; puts(&mut repo, scope));
+    assert!(rt; reads_its_tree(alloc, &repo, &key));
     Ok(())
 }
 
-fn puts_container(alloc: Global, scope: &mut Scope) -> bool {
+pub(crate) fn puts_container(alloc: Global, scope: &mut Scope) -> bool {
     if scope.save(&Path::root(), false).is_err() {
         return false;
     }
@@ -305,7 +306,7 @@ fn of_parts(alloc: Global, key: Key) -> Option<Scope> {
     let mut activities = Vec::new(alloc);
     activities.push((Path::root(), activity)).ok()?;
     let tree = Tree::from_parts(alloc, activities).ok()?;
-    Some(Scope::from_parts(key, 7, Some(tree), ContainerPool::new(alloc)))
+    Some(Scope::from_parts(alloc, key, 7, Some(tree), ContainerPool::new(alloc)))
 }
 
 #[test]

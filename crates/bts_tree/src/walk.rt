@@ -4,9 +4,10 @@ ghost use Rattle.std.specs.Option.{option_map};
 ghost use Rattle.bts_names.specs.Keys.{key_cmp};
 ghost use Rattle.bts_tree.specs.Keeping as keeping;
 ghost use Rattle.bts_tree.specs.Repositories as repo;
+ghost use Rattle.bts_tree.specs.Slots.{filled};
 
 use crate::kept::Kept;
-use crate::{Activity, Tree};
+use crate::{Activity, Slot};
 use bts_names::{Key, Moment, Name16, Path};
 use bts_timer::TimerPool;
 use std::collections::BTreeMap;
@@ -97,16 +98,18 @@ fn next_in_slot(
 
 fn next_in_tree(
     key: &Key,
-    activities: &BTreeMap<Path, Activity>,
+    activities: &BTreeMap<Path, Slot>,
     wanted: Wanted,
     after: &Option<(Key, Path)>,
 ) -> Option<Path>
     ensures { option_map (λ p. (key.now, p)) result ≡ repo.first_behind repo.place_cmp after.now
-        (repo.chosen_at (keeping.wants wanted) key.now activities.now.entries) }
+        (repo.chosen_at (keeping.wants wanted) key.now (filled activities.now.entries)) }
 {
-    for (path, activity) in activities {
-        if wanted.wants(activity) && is_behind(after, key, path) {
-            return Some(*path);
+    for (path, slot) in activities {
+        if let Some(activity) = slot.get() {
+            if wanted.wants(activity) && is_behind(after, key, path) {
+                return Some(*path);
+            }
         }
     }
     None

@@ -2,6 +2,7 @@ pub mod InFrames
 pub mod OneByOne
 pub mod Opening
 pub mod Shown
+mod FirstMark
 pub mod Performed
 pub mod Replayed
 pub mod Carried

@@ -1,5 +1,6 @@
 -- One command in the frame of a unit, on its work.
 use Rattle.std.proofs.Common.{◌≡◌, Bool, true, false, Option, Some, None, Result, Ok, Err, IfOk, OnErr, is_some, is_none, refl, sym, ap, ◌∙◌, subst}
+use Rattle.bts_names.specs.Answer.{Answer}
 use Rattle.bts_names.specs.Names.{Name, ActivityPath}
 use Rattle.bts_names.specs.declared.memory.NoMemory.{NoMemory}
 use Rattle.bts_names.specs.declared.reply.Leaving.{Leaving}
@@ -10,6 +11,7 @@ use Rattle.bts_command.specs.declared.command.Command.{Command}
 use Rattle.bts_command.specs.declared.command.Command.TheVariants as command
 use Rattle.bts_tree.specs.declared.activity.Activity.{Activity}
 use Rattle.bts_tree.specs.Processes.{Process, activity_at}
+use Rattle.bts_tree.specs.Scopes.{HeldProcess, LeavesMarks}
 use Rattle.bts_rows.specs.declared.places.Held.{Held}
 use Rattle.bts_rows.specs.Rows.{answer}
 use Rattle.bts_act.specs.Does.{Does}
@@ -18,10 +20,11 @@ use Rattle.bts_unit.specs.Calls.{called_on_top}
 use Rattle.bts_unit.specs.Ends.{leaving_of}
 use Rattle.bts_unit.specs.Frames.{here}
 use Rattle.bts_unit.specs.OneFrame.{ends_frame, is_of_one_frame}
-use Rattle.bts_unit.specs.OnWork.{GoesOn, IsOpenOrEnded, Steps, at_of, is_kept_there, stepped}
+use Rattle.bts_unit.specs.OnWork.{GoesOn, IsAsBefore, IsMarked, IsOpenOrEnded, Steps, at_of, stepped, with_scope}
 use Rattle.bts_unit.specs.OnWork as on
 use Rattle.bts_unit.specs.declared.work.FirstFrame.{FirstFrame}
 use Rattle.bts_unit.specs.declared.work.Work.{Work}
+use Rattle.bts_unit.proofs.FirstMark.{still_marked}
 use Rattle.bts_unit.proofs.Shown as shown
 
 module _ (w : Work) where
@@ -51,48 +54,60 @@ module _ (w : Work) where
   pub rolls : is_some w.frame ≡ true → Steps w (on.rolled_back w).1 (on.rolled_back w).0 (called_on_top command.Rollback)
   rolls h = rolls_case w.frame h
 
-  rows_case : (c : Command) (reply : Reply) (t : Process) (g : Held) (o : Option FirstFrame) → is_some o ≡ true → ends_frame c ≡ false → is_of_one_frame (at_of o) c ≡ true
-      → Does (Ok reply) (w.scope.process, w.held) (t, g) (answer (here w.held (at_of o)) w.held 1 w.moment w.scope.process c)
+  rows_case : (c : Command) (reply : Reply) (t : HeldProcess) (g : Held) (o : Option FirstFrame) → is_some o ≡ true → ends_frame c ≡ false → is_of_one_frame (at_of o) c ≡ true
+      → t.marks ≡ w.scope.marks
+      → Does (Ok reply) (w.scope.process, w.held) (t.process, g) (answer (here w.held (at_of o)) w.held 1 w.moment w.scope.process c)
       → Steps (with_frame o) (stepped c reply t g (with_frame o)) reply (called_on_top c)
-  rows_case c reply t g None h n one d = cc
-  rows_case c reply t g (Some f) h n one d = shown.rows w.moment w.base w.scope w.held w.end f c reply t g n one d
+  rows_case c reply t g None h n one m d = cc
+  rows_case c reply t g (Some f) h n one m d = shown.rows w.moment w.base w.scope w.held w.end f c reply t g n one m d
 
   pub steps : (c : Command) (new : Work) (r : Result Reply NoMemory) → is_some w.frame ≡ true → ends_frame c ≡ false → is_of_one_frame (at_of w.frame) c ≡ true
+      → LeavesMarks w.scope new.scope
       → Does r (w.scope.process, w.held) (new.scope.process, new.held) (answer (here w.held (at_of w.frame)) w.held 1 w.moment w.scope.process c)
-      → IfOk r (λ reply. new ≡ stepped c reply new.scope.process new.held w)
+      → IfOk r (λ reply. new ≡ stepped c reply new.scope new.held w)
       → IfOk r (λ reply. Steps w new reply (called_on_top c))
-  steps c new (Ok reply) h n one d e = subst (λ v. Steps w v reply (called_on_top c)) (sym e) (rows_case c reply new.scope.process new.held w.frame h n one d)
-  steps c new (Err x) h n one d e = tt
+  steps c new (Ok reply) h n one l d e = subst (λ v. Steps w v reply (called_on_top c)) (sym e)
+      (rows_case c reply new.scope new.held w.frame h n one l.marks d)
+  steps c new (Err x) h n one l d e = tt
 
-  -- ---- what the frame kept, and the end
+  pub steps_back : (new : Work) (r : Result Reply NoMemory) (x : Answer (Process × Held)) → LeavesMarks w.scope new.scope
+      → Does r (w.scope.process, w.held) (new.scope.process, new.held) x
+      → OnErr r (new ≡ with_scope new.scope w) → OnErr r (IsAsBefore w new)
+  steps_back new (Ok reply) x l d e = tt
+  steps_back new (Err none) x l d e = record { work = e; process = ap (λ y. y.0) d.1; marks = l.marks }
 
-  kept_marked : (b : Bool) (o : Option FirstFrame) → is_kept_there o ≡ true → is_kept_there (on.retrieving b o) ≡ true
-  kept_marked true None h = h
-  kept_marked true (Some f) h = h
-  kept_marked false o h = h
+  -- ---- the mark, and the end
+
+  flagged_marked : (b : Bool) (o : Option FirstFrame) (s : HeldProcess) → IsMarked o s → IsMarked (on.retrieving b o) s
+  flagged_marked true None s m = m
+  flagged_marked true (Some f) s m = m
+  flagged_marked false o s m = m
+
+  left_marked : (o : Option FirstFrame) (s : HeldProcess) → is_some o ≡ true → LeavesMarks w.scope s → IsMarked o w.scope → IsMarked o s
+  left_marked None s h l m = cc
+  left_marked (Some f) s h l m = still_marked f.at w.scope s l m
 
   fits_marked : (b : Bool) (o : Option FirstFrame) → is_some (on.retrieving b o) ≡ is_some o
   fits_marked true None = refl
   fits_marked true (Some f) = refl
   fits_marked false o = refl
 
-  pub steps_kept : (c : Command) (new : Work) (r : Result Reply NoMemory) → is_kept_there w.frame ≡ true
-      → IfOk r (λ reply. new ≡ stepped c reply new.scope.process new.held w) → OnErr r (new ≡ w) → is_kept_there new.frame ≡ true
-  steps_kept c new (Ok reply) k e f = ap (λ v. is_kept_there v.frame) e ∙ kept_marked (on.was_retrieved c reply) w.frame k
-  steps_kept c new (Err x) k e f = ap (λ v. is_kept_there v.frame) f ∙ k
-
-  stays : IsOpenOrEnded w → GoesOn w w
-  stays k = record { open_or_ended = k; moment = refl; base = refl }
+  pub steps_marked : (c : Command) (new : Work) (r : Result Reply NoMemory) → is_some w.frame ≡ true → IsMarked w.frame w.scope
+      → LeavesMarks w.scope new.scope → IfOk r (λ reply. new ≡ stepped c reply new.scope new.held w) → OnErr r (new ≡ with_scope new.scope w) → IsMarked new.frame new.scope
+  steps_marked c new (Ok reply) h m l e f =
+      subst (λ v. IsMarked v.frame new.scope) (sym e)
+      (flagged_marked (on.was_retrieved c reply) w.frame new.scope (left_marked w.frame new.scope h l m))
+  steps_marked c new (Err x) h m l e f = subst (λ v. IsMarked v.frame new.scope) (sym f) (left_marked w.frame new.scope h l m)
 
   pub steps_go_on : (c : Command) (new : Work) (r : Result Reply NoMemory) → IsOpenOrEnded w
-      → IfOk r (λ reply. new ≡ stepped c reply new.scope.process new.held w) → OnErr r (new ≡ w) → GoesOn w new
+      → IfOk r (λ reply. new ≡ stepped c reply new.scope new.held w) → OnErr r (new ≡ with_scope new.scope w) → GoesOn w new
   steps_go_on c new (Ok reply) k e f =
       record {
         open_or_ended = ap (λ v. is_none v.end) e ∙ k ∙ sym (ap (λ v. is_some v.frame) e ∙ fits_marked (on.was_retrieved c reply) w.frame);
         moment = ap (λ v. v.moment) e;
         base = ap (λ v. v.base) e;
       }
-  steps_go_on c new (Err x) k e f = subst (GoesOn w) (sym f) (stays k)
+  steps_go_on c new (Err x) k e f = subst (GoesOn w) (sym f) (record { open_or_ended = k; moment = refl; base = refl })
 
   -- the unit's frame is this one
   abbrev On : Option FirstFrame → Work → Type 0
@@ -127,31 +142,50 @@ module _ (w : Work) where
   pub returns_go_on : (x : Bool) → IsOpenOrEnded w → GoesOn w (on.returned x w).1
   returns_go_on x k = returned_goes_on x w.frame k
 
-  abended_kept : (code : Name) (o : Option FirstFrame) → is_kept_there o ≡ true → is_kept_there (on.abended code (with_frame o)).frame ≡ true
-  abended_kept code None k = k
-  abended_kept code (Some f) k = refl
+  -- the unit's frame is this one, and its scope is marked so
+  abbrev Marked : Option FirstFrame → Work → Type 0
+  Marked o new = IsMarked o w.scope → IsMarked new.frame new.scope
 
-  left_kept : (p : ActivityPath) (how : Leaving) (o : Option FirstFrame) → is_kept_there o ≡ true → is_kept_there (on.left p how (with_frame o)).frame ≡ true
-  left_kept p leaving.Dormant o k = refl
-  left_kept p leaving.Complete o k = refl
-  left_kept p (leaving.Abended code) o k = abended_kept code o k
+  abended_marked : (code : Name) (o : Option FirstFrame) → Marked o (on.abended code (with_frame o))
+  abended_marked code None m = m
+  abended_marked code (Some f) m = refl
 
-  returned_at_kept : (x g : Bool) (p : ActivityPath) (a : Option Activity) (o : Option FirstFrame) → is_kept_there o ≡ true → is_kept_there (on.returned_at x g p a (with_frame o)).1.frame ≡ true
-  returned_at_kept x g p None o k = k
-  returned_at_kept x g p (Some a) o k = left_kept p (leaving_of x g a.pool) o k
+  left_so_marked : (p : ActivityPath) (how : Leaving) (o : Option FirstFrame) → Marked o (on.left p how (with_frame o))
+  left_so_marked p leaving.Dormant o m = refl
+  left_so_marked p leaving.Complete o m = refl
+  left_so_marked p (leaving.Abended code) o m = abended_marked code o m
 
-  returned_in_kept : (x g : Bool) (at : Option ActivityPath) (o : Option FirstFrame) → is_kept_there o ≡ true → is_kept_there (on.returned_in x g at (with_frame o)).1.frame ≡ true
-  returned_in_kept true g None o k = k
-  returned_in_kept false g None o k = refl
-  returned_in_kept true g (Some p) o k = returned_at_kept true g p (activity_at p w.scope.process) o k
-  returned_in_kept false g (Some p) o k = returned_at_kept false g p (activity_at p w.scope.process) o k
+  returned_at_marked : (x g : Bool) (p : ActivityPath) (a : Option Activity) (o : Option FirstFrame)
+      → Marked o (on.returned_at x g p a (with_frame o)).1
+  returned_at_marked x g p None o m = m
+  returned_at_marked x g p (Some a) o m = left_so_marked p (leaving_of x g a.pool) o m
 
-  returned_kept : (x : Bool) (o : Option FirstFrame) → is_kept_there o ≡ true → is_kept_there (on.returned x (with_frame o)).1.frame ≡ true
-  returned_kept x None k = k
-  returned_kept x (Some f) k = returned_in_kept x f.retrieved f.at (Some f) k
+  returned_in_marked : (x g : Bool) (at : Option ActivityPath) (o : Option FirstFrame) → Marked o (on.returned_in x g at (with_frame o)).1
+  returned_in_marked true g None o m = m
+  returned_in_marked false g None o m = refl
+  returned_in_marked true g (Some p) o m = returned_at_marked true g p (activity_at p w.scope.process) o m
+  returned_in_marked false g (Some p) o m = returned_at_marked false g p (activity_at p w.scope.process) o m
 
-  pub returns_kept : (x : Bool) → is_kept_there w.frame ≡ true → is_kept_there (on.returned x w).1.frame ≡ true
-  returns_kept x k = returned_kept x w.frame k
+  returned_marked : (x : Bool) (o : Option FirstFrame) → Marked o (on.returned x (with_frame o)).1
+  returned_marked x None m = m
+  returned_marked x (Some f) m = returned_in_marked x f.retrieved f.at (Some f) m
+
+  pub returns_marked : (x : Bool) → IsMarked w.frame w.scope → IsMarked (on.returned x w).1.frame (on.returned x w).1.scope
+  returns_marked x m = returned_marked x w.frame m
+
+  pub abends_marked : (code : Name) → IsMarked w.frame w.scope → IsMarked (on.abended code w).frame (on.abended code w).scope
+  abends_marked code m = abended_marked code w.frame m
+
+  rolled_in_marked : (f : FirstFrame) (at : Option ActivityPath) → Marked (Some f) (on.rolled_back_in f at (with_frame (Some f))).1
+  rolled_in_marked f None m = refl
+  rolled_in_marked f (Some p) m = m
+
+  rolled_marked : (o : Option FirstFrame) → Marked o (on.rolled_back (with_frame o)).1
+  rolled_marked None m = m
+  rolled_marked (Some f) m = rolled_in_marked f f.at m
+
+  pub rolls_marked : IsMarked w.frame w.scope → IsMarked (on.rolled_back w).1.frame (on.rolled_back w).1.scope
+  rolls_marked m = rolled_marked w.frame m
 
   pub abends_go_on : (code : Name) → IsOpenOrEnded w → GoesOn w (on.abended code w)
   abends_go_on code k = abended_goes_on code w.frame k

@@ -1,5 +1,7 @@
 -- How the frame of a unit ends, on the parts of its work.
-use Rattle.std.specs.Prelude.{◌≡◌, ℕ, Bool, true, false, ◌&&◌, List, [], ◌∷◌, Option, Some, None, is_none, is_some}
+use Rattle.std.specs.Prelude.{◌≡◌, ℕ, Bool, true, false, ◌&&◌, List, [], ◌∷◌, length, Option, Some, None, is_none, is_some, option_to_list}
+use Rattle.std.specs.List.{slice_get}
+use Rattle.std.specs.Option.{option_map}
 use Rattle.bts_names.specs.Names.{Name, ActivityPath}
 use Rattle.bts_names.specs.declared.reply.Leaving.{Leaving}
 use Rattle.bts_names.specs.declared.reply.Leaving.TheVariants as leaving
@@ -15,7 +17,7 @@ use Rattle.bts_tree.specs.declared.activity.Activity.{Activity}
 use Rattle.bts_tree.specs.Activities.{by_cause}
 use Rattle.bts_tree.specs.Modes.{waits}
 use Rattle.bts_tree.specs.Processes.{Process, activity_at, complete, edited}
-use Rattle.bts_tree.specs.Scopes.{HeldProcess, holding}
+use Rattle.bts_tree.specs.Scopes.{HeldProcess, gone_back, held_whole, holding, marked, saving}
 use Rattle.bts_rows.specs.declared.places.Held.{Held}
 use Rattle.bts_rows.specs.declared.places.Held.TheVariants as held
 use Rattle.bts_rows.specs.Replies.{is_normal}
@@ -30,13 +32,17 @@ use Rattle.bts_unit.specs.declared.work.Work.{Work}
 
 -- ---- what a unit's work shows
 
-abbrev pub frames_of : Option FirstFrame → List OpenFrame
-frames_of None = []
-frames_of (Some f) = record { at = f.at; program = f.program; opened = 0; retrieved = f.retrieved; kept = Some (standing f.kept.process) } ∷ []
+-- what the first mark of a scope gives back
+abbrev pub kept_in : HeldProcess → Option Standing
+kept_in h = option_map (λ m. standing m.0) (slice_get h.marks 0)
+
+abbrev pub frames_of : Option FirstFrame → HeldProcess → List OpenFrame
+frames_of None h = []
+frames_of (Some f) h = record { at = f.at; program = f.program; opened = 0; retrieved = f.retrieved; kept = kept_in h } ∷ []
 
 abbrev pub unit_of : Work → Standing → List Call → UnitOfWork
 unit_of w now calls =
-    record { moment = w.moment; base = w.base.process; held = w.held; now = now; frames = frames_of w.frame; calls = calls; end = w.end }
+    record { moment = w.moment; base = w.base.process; held = w.held; now = now; frames = frames_of w.frame w.scope; calls = calls; end = w.end }
 
 -- a step of a unit with a reply, behind which this work is what it shows
 pub record Leaves (w : Work) (calls : List Call) (reply : Reply) (x : Reply × UnitOfWork) : Type 0 where
@@ -63,9 +69,18 @@ retrieving false o = o
 abbrev pub was_retrieved : Command → Reply → Bool
 was_retrieved c reply = is_retrieval c && is_normal reply.resp
 
--- behind a command that was done or refused with a reply, this process and this acquired
-abbrev pub stepped : Command → Reply → Process → Held → Work → Work
-stepped c reply s h w = record w { scope = holding s w.scope; held = h; frame = retrieving (was_retrieved c reply) w.frame }
+-- behind a command that was done or refused with a reply, this scope and this acquired
+abbrev pub stepped : Command → Reply → HeldProcess → Held → Work → Work
+stepped c reply s h w = record w { scope = s; held = h; frame = retrieving (was_retrieved c reply) w.frame }
+
+abbrev pub with_scope : HeldProcess → Work → Work
+with_scope s w = record w { scope = s }
+
+-- behind a command for which there was no memory: paths may be saved besides, and all else is as it was
+pub record IsAsBefore (old new : Work) : Type 0 where
+  pub work : new ≡ with_scope new.scope old
+  pub process : new.scope.process ≡ old.scope.process
+  pub marks : new.scope.marks ≡ old.scope.marks
 
 -- the frame is open exactly where the unit hasn't ended
 abbrev pub IsOpenOrEnded : Work → Type 0
@@ -77,12 +92,20 @@ pub record GoesOn (old new : Work) : Type 0 where
   pub moment : new.moment ≡ old.moment
   pub base : new.base ≡ old.base
 
--- ---- ends
+-- ---- marks
 
--- the activity of the frame is there in what it kept
-abbrev pub is_kept_there : Option FirstFrame → Bool
-is_kept_there None = true
-is_kept_there (Some f) = is_there_at f.at f.kept.process
+-- one mark stands, at which all was saved, and the activity of the frame was there
+pub record IsMarkedAt (at : Option ActivityPath) (h : HeldProcess) : Type 0 where
+  pub one : length h.marks ≡ 1
+  pub whole : gone_back 0 h ≡ held_whole (gone_back 0 h).process
+  pub there : is_there_at at (gone_back 0 h).process ≡ true
+
+-- so it is as long as the frame is open, and a unit that has ended has no mark
+abbrev pub IsMarked : Option FirstFrame → HeldProcess → Type 0
+IsMarked None h = h ≡ held_whole h.process
+IsMarked (Some f) h = IsMarkedAt f.at h
+
+-- ---- ends
 
 abbrev pub is_of_request : Option FirstFrame → Bool
 is_of_request None = false
@@ -91,23 +114,24 @@ is_of_request (Some f) = is_none f.at
 abbrev pub closed : End → Work → Work
 closed e w = record w { frame = None; end = Some e }
 
-abbrev pub with_completed : Option ActivityPath → Name → HeldProcess → HeldProcess
-with_completed None code kept = kept
-with_completed (Some p) code kept = holding (complete p status.Abend (Some code) kept.process) kept
+-- it has ended, and leaves this process, without a mark
+abbrev pub ended : End → Process → Work → Work
+ended e s w = closed e (with_scope (held_whole s) w)
+
+abbrev pub completed_by : Option ActivityPath → Name → Process → Process
+completed_by None code s = s
+completed_by (Some p) code s = complete p status.Abend (Some code) s
 
 abbrev pub abended_by : Option FirstFrame → Name → Work → Work
 abended_by None code w = w
-abended_by (Some f) code w = record w { scope = with_completed f.at code f.kept; frame = None; end = Some (Abend code) }
+abended_by (Some f) code w = ended (Abend code) (completed_by f.at code (gone_back 0 w.scope).process) w
 
 abbrev pub abended : Name → Work → Work
 abended code w = abended_by w.frame code w
 
-abbrev pub with_process : Process → Work → Work
-with_process s w = record w { scope = holding s w.scope }
-
 abbrev pub left : ActivityPath → Leaving → Work → Work
-left p leaving.Dormant w = closed Commit (with_process (edited p (by_cause waits None) w.scope.process) w)
-left p leaving.Complete w = closed Commit (with_process (complete p status.Normal None w.scope.process) w)
+left p leaving.Dormant w = ended Commit (edited p (by_cause waits None) w.scope.process) w
+left p leaving.Complete w = ended Commit (complete p status.Normal None w.scope.process) w
 left p (leaving.Abended code) w = abended code w
 
 abbrev pub returned_at : Bool → Bool → ActivityPath → Option Activity → Work → Reply × Work
@@ -117,7 +141,7 @@ returned_at end_activity retrieved p (Some a) w =
 
 abbrev pub returned_in : Bool → Bool → Option ActivityPath → Work → Reply × Work
 returned_in true retrieved None w = (out_of_place, w)
-returned_in false retrieved None w = (normal value.Nothing, closed Commit w)
+returned_in false retrieved None w = (normal value.Nothing, ended Commit w.scope.process w)
 returned_in end_activity retrieved (Some p) w = returned_at end_activity retrieved p (activity_at p w.scope.process) w
 
 abbrev pub returned_by : Bool → Option FirstFrame → Work → Reply × Work
@@ -128,7 +152,7 @@ abbrev pub returned : Bool → Work → Reply × Work
 returned end_activity w = returned_by end_activity w.frame w
 
 abbrev pub rolled_back_in : FirstFrame → Option ActivityPath → Work → Reply × Work
-rolled_back_in f None w = (normal value.Nothing, record w { scope = f.kept; frame = None; end = Some Rollback })
+rolled_back_in f None w = (normal value.Nothing, ended Rollback (gone_back 0 w.scope).process w)
 rolled_back_in f (Some p) w = (out_of_place, w)
 
 abbrev pub rolled_back_by : Option FirstFrame → Work → Reply × Work
@@ -140,16 +164,20 @@ rolled_back w = rolled_back_by w.frame w
 
 -- ---- the beginning
 
-abbrev pub opened : Option ActivityPath → ℕ → HeldProcess → HeldProcess → HeldProcess → Work
-opened at moment base kept scope =
+-- the path of the frame's activity is saved, and the frame opens
+abbrev pub opened_in : Option ActivityPath → HeldProcess → HeldProcess
+opened_in at h = holding (opened_at at h.process) (saving (option_to_list at) h)
+
+abbrev pub opened : Option ActivityPath → ℕ → Process → Work
+opened at moment s =
     record {
       moment = moment;
-      base = base;
-      scope = holding (opened_at at scope.process) scope;
+      base = held_whole s;
+      scope = opened_in at (marked (held_whole s));
       held = held.Never;
-      frame = Some (record { at = at; program = program_at at scope.process; retrieved = false; kept = kept });
+      frame = Some (record { at = at; program = program_at at s; retrieved = false });
       end = None;
     }
 
-abbrev pub begun : UnitKind → ℕ → HeldProcess → Work
-begun kind moment scope = opened (path_of kind) moment scope scope scope
+abbrev pub begun : UnitKind → ℕ → Process → Work
+begun kind moment s = opened (path_of kind) moment s

@@ -6,11 +6,12 @@ use Rattle.bts_command.specs.Given.{IsGiven}
 use Rattle.bts_command.specs.declared.command.Call.{Call}
 use Rattle.bts_command.specs.declared.ended.End.{End}
 use Rattle.bts_command.specs.declared.ended.UnitKind.{UnitKind}
+use Rattle.bts_tree.specs.Scopes.{held_whole}
 use Rattle.bts_unit.specs.Calls.{commands_of, run}
 use Rattle.bts_unit.specs.Ends.{abended_whole}
 use Rattle.bts_unit.specs.Frames.{OpenFrame, UnitOfWork, start}
 use Rattle.bts_unit.specs.OneFrame.{StandsIn, is_of_one_frame}
-use Rattle.bts_unit.specs.OnWork.{is_kept_there, unit_of}
+use Rattle.bts_unit.specs.OnWork.{IsMarked, unit_of}
 use Rattle.bts_unit.specs.Soundness.{IsSoundUnit, IsSoundWithin}
 use Rattle.bts_unit.specs.declared.work.Work.{Work}
 
@@ -27,7 +28,8 @@ pub record IsWorkOf (w : Work) (calls : List Call) (stopped : Option Name) (u : 
   pub unit : u ≡ unit_of w u.now calls
   pub process : u.now.process ≡ w.scope.process
   pub fits : is_none w.end ≡ is_some w.frame
-  pub kept : is_kept_there w.frame ≡ true
+  pub base : w.base ≡ held_whole w.base.process
+  pub marked : IsMarked w.frame w.scope
   pub goes_on : is_none w.end ≡ true → stopped ≡ None
 
 -- the activity of the top frame

@@ -3,11 +3,13 @@ ghost use Rattle.std.specs.Prelude.{◌≡◌, true, false, None, IsSome};
 ghost use Rattle.bts_tree.specs.Activities.{by_cause};
 ghost use Rattle.bts_tree.specs.Modes.{waits};
 ghost use Rattle.bts_tree.specs.Processes.{activity_at};
+ghost use Rattle.bts_tree.specs.Scopes.{gone_back, held_whole};
 ghost use Rattle.bts_unit.specs.Ends.{leaving_of as leaving_by};
 ghost use Rattle.bts_unit.specs.Frames.{is_there_at};
 ghost use Rattle.bts_unit.specs.OnWork as on;
 
 use crate::codes::{children_left, no_retrieval};
+use crate::unmarked::unmark;
 use crate::work::{FirstFrame, Work};
 use bts_act::{normal_reply, refused};
 use bts_command::End;
@@ -22,32 +24,25 @@ fn close(work: &mut Work, end: End)
     work.end = Some(end);
 }
 
-/// Gives back what the frame kept; its activity is COMPLETE then.
+/// Goes back to the unit's start, where the activity of its frame is COMPLETE then.
 pub(crate) fn abend(work: &mut Work, code: Abcode)
-    requires { on.is_kept_there work.old.frame ≡ true }
+    requires { on.IsMarked work.old.frame work.old.scope }
     ensures { work.new ≡ on.abended code work.old }
 {
     if let Some(frame) = work.frame.take() {
-        let FirstFrame {
-            at,
-            program: _,
-            retrieved: _,
-            kept,
-        } = frame;
-        work.scope = with_completed(at, code, kept);
+        go_back(&mut work.scope, &frame.at, code);
         work.end = Some(End::Abend(code));
     }
 }
 
-fn with_completed(at: Option<Path>, code: Abcode, mut kept: Scope) -> Scope
-    requires { is_there_at at kept.process ≡ true }
-    ensures { result ≡ on.with_completed at code kept }
+fn go_back(scope: &mut Scope, at: &Option<Path>, code: Abcode)
+    requires { on.IsMarkedAt at.now scope.old }
+    ensures { scope.new ≡ held_whole (on.completed_by at.now code (gone_back 0 scope.old).process) }
 {
-    kept.facts();
+    scope.back_to(0);
     if let Some(path) = at {
-        kept.complete(&path, Status::Abend, Some(code));
+        scope.complete(path, Status::Abend, Some(code));
     }
-    kept
 }
 
 /// How a RETURN leaves the activity of its frame.
@@ -93,16 +88,17 @@ fn wait(activity: &mut Activity)
 /// Leaves the frame of the activity at a path so.
 fn leave(work: &mut Work, path: &Path, leaving: &Leaving)
     requires there { IsSome (activity_at path.now work.old.scope.process) }
-    requires kept { on.is_kept_there work.old.frame ≡ true }
+    requires marked { on.IsMarked work.old.frame work.old.scope }
     ensures { work.new ≡ on.left path.now leaving.now work.old }
 {
-    work.scope.facts();
     match leaving {
         Leaving::Dormant => {
+            unmark(&mut work.scope);
             wait(work.scope.edit(path));
             close(work, End::Commit);
         }
         Leaving::Complete => {
+            unmark(&mut work.scope);
             work.scope.complete(path, Status::Normal, None);
             close(work, End::Commit);
         }
@@ -112,7 +108,7 @@ fn leave(work: &mut Work, path: &Path, leaving: &Leaving)
 
 fn return_at(work: &mut Work, path: &Path, end_activity: bool, retrieved: bool) -> Reply
     requires there { IsSome (activity_at path.now work.old.scope.process) }
-    requires kept { on.is_kept_there work.old.frame ≡ true }
+    requires marked { on.IsMarked work.old.frame work.old.scope }
     ensures { (result, work.new)
         ≡ on.returned_at end_activity retrieved path.now (activity_at path.now work.old.scope.process) work.old }
 {
@@ -128,6 +124,7 @@ fn return_from_request(work: &mut Work, end_activity: bool) -> Reply
     if end_activity {
         return refused(Resp::Invreq, Reason::Place);
     }
+    unmark(&mut work.scope);
     close(work, End::Commit);
     normal_reply(Value::Nothing)
 }
@@ -135,7 +132,7 @@ fn return_from_request(work: &mut Work, end_activity: bool) -> Reply
 /// RETURN: how it leaves an activity's frame is told.
 pub(crate) fn return_from(work: &mut Work, end_activity: bool) -> Reply
     requires there { is_there_at (on.at_of work.old.frame) work.old.scope.process ≡ true }
-    requires kept { on.is_kept_there work.old.frame ≡ true }
+    requires marked { on.IsMarked work.old.frame work.old.scope }
     ensures { (result, work.new) ≡ on.returned end_activity work.old }
 {
     let Some(frame) = &work.frame else {
@@ -148,17 +145,16 @@ pub(crate) fn return_from(work: &mut Work, end_activity: bool) -> Reply
     }
 }
 
-/// ROLLBACK, which gives back what the frame kept.
+/// ROLLBACK, which goes back to the unit's start.
 pub(crate) fn roll_back(work: &mut Work) -> Reply
+    requires { on.IsMarked work.old.frame work.old.scope }
     ensures { (result, work.new) ≡ on.rolled_back work.old }
 {
     if !is_of_request(&work.frame) {
         return refused(Resp::Invreq, Reason::Place);
     }
-    if let Some(frame) = work.frame.take() {
-        work.scope = frame.kept;
-        work.end = Some(End::Rollback);
-    }
+    work.scope.back_to(0);
+    close(work, End::Rollback);
     normal_reply(Value::Nothing)
 }
 

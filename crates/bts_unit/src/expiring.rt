@@ -8,6 +8,7 @@ ghost use Rattle.bts_act.specs.Early.{has_none_early, none_early};
 ghost use Rattle.bts_unit.specs.Systems as systems;
 
 use crate::change::Change;
+use crate::unmarked::without_marks;
 use bts_act::fire_unfired;
 use bts_command::{Calls, End, UnitKind};
 use bts_names::{Moment, Name16, NoMemory};
@@ -56,8 +57,7 @@ pub fn system(
     let Ok(base) = scope.copy(alloc) else {
         return Err((NoMemory, scope));
     };
-    let mut after = scope;
-    after.facts();
+    let mut after = without_marks(scope);
     match expire(after.edit(&path), timer) {
         Ok(()) => Ok(Change {
             base,

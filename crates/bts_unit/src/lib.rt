@@ -19,6 +19,7 @@ mod performing;
 mod repeating;
 mod rows;
 mod unit;
+mod unmarked;
 mod work;
 
 pub use apply_error::ApplyError;

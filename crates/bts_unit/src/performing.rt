@@ -2,7 +2,7 @@
 ghost use Rattle.std.specs.Prelude.{◌≡◌, ◌<◌, ◌-◌, ◌^◌, IsTrue, IfOk, OnErr, Some, is_some, true};
 ghost use Rattle.bts_command.specs.declared.command.Command.TheVariants as commands;
 ghost use Rattle.bts_tree.specs.Soundness.{numbers_below};
-ghost use Rattle.bts_tree.specs.Scopes.{holding};
+ghost use Rattle.bts_tree.specs.Scopes.{LeavesMarks};
 ghost use Rattle.bts_command.specs.Given.{IsGiven};
 ghost use Rattle.bts_rows.specs.Replies.{is_normal};
 ghost use Rattle.bts_rows.specs.Rows.{answer};
@@ -59,9 +59,10 @@ fn step(work: &mut Work, alloc: Global, command: &Command) -> Result<Reply, NoMe
     requires one_frame { IsTrue (is_of_one_frame (on.at_of work.old.frame) command.now) }
     ensures row { Does result (work.old.scope.process, work.old.held) (work.new.scope.process, work.new.held)
         (answer (here work.old.held (on.at_of work.old.frame)) work.old.held 1 work.old.moment work.old.scope.process command.now) }
+    ensures rest { LeavesMarks work.old.scope work.new.scope }
     ensures ok { IfOk result (λ reply. work.new
-        ≡ on.stepped command.now reply work.new.scope.process work.new.held work.old) }
-    ensures err { OnErr result (work.new ≡ work.old) }
+        ≡ on.stepped command.now reply work.new.scope work.new.held work.old) }
+    ensures err { OnErr result (work.new ≡ on.with_scope work.new.scope work.old) }
 {
     let at = at_of(&work.frame);
     let reply = do_row(
@@ -80,7 +81,7 @@ fn step(work: &mut Work, alloc: Global, command: &Command) -> Result<Reply, NoMe
 pub(crate) fn perform(work: &mut Work, alloc: Global, command: &Command) -> Result<Reply, NoMemory>
     requires open { is_some work.old.frame ≡ true }
     requires fits { on.IsOpenOrEnded work.old }
-    requires kept { on.is_kept_there work.old.frame ≡ true }
+    requires marked { on.IsMarked work.old.frame work.old.scope }
     requires there { is_there_at (on.at_of work.old.frame) work.old.scope.process ≡ true }
     requires late { IsTrue (none_early work.old.scope.process) }
     requires numbers { IsTrue (numbers_below (2 ^ 64 - 1) work.old.scope.process) }
@@ -88,8 +89,8 @@ pub(crate) fn perform(work: &mut Work, alloc: Global, command: &Command) -> Resu
     requires given { IsGiven command.now }
     requires one_frame { IsTrue (is_of_one_frame (on.at_of work.old.frame) command.now) }
     ensures ok { IfOk result (λ reply. on.Steps work.old work.new reply (called_on_top command.now)) }
-    ensures err { OnErr result (work.new ≡ work.old) }
-    ensures kept { on.is_kept_there work.new.frame ≡ true }
+    ensures err { OnErr result (on.IsAsBefore work.old work.new) }
+    ensures marked { on.IsMarked work.new.frame work.new.scope }
     ensures goes_on { on.GoesOn work.old work.new }
 {
     match command {

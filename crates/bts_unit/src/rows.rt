@@ -1,6 +1,6 @@
 // Commands by their rows, in the one open frame of a unit.
 ghost use Rattle.std.specs.Prelude.{◌≡◌, ◌<◌, ◌-◌, ◌^◌, IsTrue, option_to_list, true};
-ghost use Rattle.bts_tree.specs.Scopes.{holding};
+ghost use Rattle.bts_tree.specs.Scopes.{LeavesMarks};
 ghost use Rattle.bts_tree.specs.Soundness.{IsSoundInFrames, numbers_below};
 ghost use Rattle.bts_command.specs.Given.{IsGiven};
 ghost use Rattle.bts_rows.specs.Rows.{answer};
@@ -34,7 +34,7 @@ pub(crate) fn do_row(
     requires one_frame { IsTrue (is_of_one_frame at.now command.now) }
     ensures row { Does result (scope.old.process, held.old) (scope.new.process, held.new)
         (answer (here held.old at.now) held.old 1 moment scope.old.process command.now) }
-    ensures rest { scope.new ≡ holding scope.new.process scope.old }
+    ensures rest { LeavesMarks scope.old scope.new }
     ensures kept { IsSoundInFrames (option_to_list at.now) scope.old.process
         → IsSoundInFrames (option_to_list at.now) scope.new.process }
 {

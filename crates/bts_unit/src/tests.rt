@@ -3,6 +3,7 @@ ghost use Rattle.std.specs.Prelude.{◌≡◌, ◌<◌, ◌-◌, ◌^◌, IfSome
 ghost use Rattle.std.specs.List.{list_all};
 ghost use Rattle.bts_command.specs.declared.ended.UnitKind.TheVariants as unit;
 ghost use Rattle.bts_tree.specs.Processes.{no_process};
+ghost use Rattle.bts_tree.specs.Slots.{filled};
 ghost use Rattle.bts_tree.specs.Soundness.{numbers_below};
 ghost use Rattle.bts_command.specs.Given.{IsGiven, is_systems};
 ghost use Rattle.bts_act.specs.Early.{none_early};
@@ -18,7 +19,7 @@ use bts_names::{
     Abcode, Key, Leaving, Mode, Moment, Name16, Path, ProcName, ProcType, ProgName, Reason, Resp,
     TimerStatus, Transid, Value,
 };
-use bts_tree::{Activity, Scope};
+use bts_tree::{Activity, Scope, Slot};
 use std::alloc::Global;
 use std::collections::BTreeMap;
 use std::test::Fail;
@@ -109,19 +110,21 @@ fn requests_end(rt: HostRuntime) -> Result<(), Fail> {
 fn numbered(scope: &Scope) -> bool
     ensures { IsTrue result → IsTrue (numbers_below (2 ^ 64 - 1) scope.now.process) }
 {
-    match scope.tree() {
-        Some(tree) => all_numbered(tree.activities()),
+    match scope.activities() {
+        Some(activities) => all_numbered(activities),
         None => true,
     }
 }
 
-fn all_numbered(activities: &BTreeMap<Path, Activity>) -> bool
-    ensures { result ≡ list_all (λ x. nat_lt x.1.pool.last (2 ^ 64 - 1)) activities.now.entries }
+fn all_numbered(activities: &BTreeMap<Path, Slot>) -> bool
+    ensures { result ≡ list_all (λ x. nat_lt x.1.pool.last (2 ^ 64 - 1)) (filled activities.now.entries) }
 {
-    for (path, activity) in activities {
+    for (path, slot) in activities {
         let _ = path;
-        if activity.pool.last_number() == u64::MAX {
-            return false;
+        if let Some(activity) = slot.get() {
+            if activity.pool.last_number() == u64::MAX {
+                return false;
+            }
         }
     }
     true

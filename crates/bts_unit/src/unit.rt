@@ -2,6 +2,7 @@
 ghost use Rattle.std.specs.Prelude.{◌≡◌, ◌<◌, ◌+◌, ◌-◌, ◌^◌, ℕ, IsTrue, IfOk, OnOk, OnErr, IfErr, IfSome, Some, None, is_none, is_some, true, false, length, ◌++◌, ◌∷◌, []};
 ghost use Rattle.std.specs.List.{slice_get};
 ghost use Rattle.std.specs.Option.{option_map};
+ghost use Rattle.bts_tree.specs.Scopes.{held_whole};
 ghost use Rattle.bts_tree.specs.Soundness.{IsSoundInFrames, is_within, numbers_below};
 ghost use Rattle.bts_rows.specs.Bounds.{is_lone, raised_by};
 ghost use Rattle.bts_command.specs.Given.{IsGiven};
@@ -50,8 +51,9 @@ impl Model for Unit {
 }
 
 impl Unit {
-    /// Begins a request, or an activation that is enabled. The process is copied twice: an abend gives one copy
-    /// back, and the other stays to be compared with. Where there is no memory the process comes back.
+    /// Begins a request, or an activation that is enabled. The process is copied once, to be compared with; an abend
+    /// goes back to a mark at its start, and the marks that stood before go. Where there is no memory the process
+    /// comes back.
     pub fn start(
         alloc: Global,
         scope: Scope,
@@ -159,6 +161,7 @@ impl Unit {
         requires { is_some self.end ≡ true }
         ensures base { result.base.process ≡ self.base }
         ensures after { result.after.process ≡ self.now.process }
+        ensures whole { (result.base ≡ held_whole self.base) × (result.after ≡ held_whole self.now.process) }
         ensures calls { result.calls ≡ self.calls }
         ensures end { Some result.end ≡ self.end }
         ensures sound { IsSoundUnit self → IsSoundInFrames [] result.after.process }

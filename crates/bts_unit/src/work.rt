@@ -18,8 +18,6 @@ pub(crate) struct FirstFrame {
     pub program: Option<ProgName>,
     /// Whether an entry was retrieved in it.
     pub retrieved: bool,
-    /// The process at the unit's start, which its abend gives back.
-    pub kept: Scope,
 }
 
 /// A unit behind some calls.
@@ -28,7 +26,7 @@ pub(crate) struct Work {
     pub moment: Moment,
     /// The process at its start.
     pub base: Scope,
-    /// The process now.
+    /// The process now, with one mark at the unit's start; without a mark where it has ended.
     pub scope: Scope,
     pub held: Held,
     /// None where it has ended.
@@ -39,7 +37,7 @@ pub(crate) struct Work {
 impl Work {
     /// Its open frame, as callers see it.
     pub(crate) fn top_frame(&self) -> Option<Frame>
-        ensures { result ≡ top_frame (on.frames_of self.now.frame) }
+        ensures { result ≡ top_frame (on.frames_of self.now.frame self.now.scope) }
     {
         let frame = self.frame.as_ref()?;
         Some(Frame {

@@ -1,6 +1,5 @@
-use Rattle.std.proofs.Common.{sym, ap, ◌∙◌}
+use Rattle.std.proofs.Common.{sym, ◌∙◌}
 use Rattle.bts_tree.specs.Processes.{child_of}
-use Rattle.bts_tree.specs.Scopes.{HeldProcess}
 use Rattle.bts_act.proofs.Children.{deletes_child, resting_is_child, resting_is_there}
 use Rattle.bts_act.proofs.families.delete_child.Goals as goal
 
@@ -14,4 +13,4 @@ pub returns-in_ok-remove_child-in-Ok-clause-row : goal.returns-in_ok-remove_chil
 returns-in_ok-remove_child-in-Ok-clause-row c =
     let s = c.args.scope.now.process in
     deletes_child s (child_of c.args.at.now c.args.name.now s) c.in-Ok.path c.normal_reply.result c.remove_child.new.scope.process (sym c.resting_child.ensures ∙ c.in-Ok.is) c.normal_reply.ensures
-    (ap (λ (h : HeldProcess). h.process) c.in_ok-remove_child-in-Ok.ensures.ok)
+    c.in_ok-remove_child-in-Ok.ensures.ok

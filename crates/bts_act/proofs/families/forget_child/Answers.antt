@@ -7,7 +7,7 @@ use Rattle.bts_act.proofs.Children.{on_err}
 use Rattle.bts_act.proofs.families.forget_child.Goals as goal
 
 pub remove_completion-requires : goal.remove_completion-requires
-remove_completion-requires c = number_below c.args.at.now c.args.scope.now.process c.edit-activity.result.now c.edit-activity.ensures.value 18446744073709551615 c.requires
+remove_completion-requires c = number_below c.args.at.now c.args.scope.now.process c.edit-activity.result.now c.edit-activity.ensures.value 18446744073709551615 c.requires.numbers
 
 pub returns-clause-err : goal.returns-clause-err
 returns-clause-err c =

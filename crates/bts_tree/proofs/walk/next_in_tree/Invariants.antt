@@ -1,6 +1,7 @@
 use Rattle.std.proofs.Common.{◌≡◌}
 use Rattle.bts_tree.specs.Keeping as keeping
 use Rattle.bts_tree.specs.Repositories as repo
+use Rattle.bts_tree.specs.Slots.{filled}
 use Rattle.bts_tree.proofs.walk.next_in_tree.Given as goal
 
 -- what is left has the answer
@@ -8,5 +9,5 @@ abbrev pub invariant-loop-path : goal.invariant-loop-path
 invariant-loop-path l =
     (goal.iterator-loop-path).can_next l.path-iterator ×
     (goal.iterator-loop-path).is_finite l.path-iterator ×
-    (repo.first_behind repo.place_cmp l.after (repo.chosen_at (keeping.wants l.wanted) l.key l.activities.entries)
-    ≡ repo.first_behind repo.place_cmp l.after (repo.chosen_at (keeping.wants l.wanted) l.key l.path-iterator))
+    (repo.first_behind repo.place_cmp l.after (repo.chosen_at (keeping.wants l.wanted) l.key (filled l.activities.entries))
+    ≡ repo.first_behind repo.place_cmp l.after (repo.chosen_at (keeping.wants l.wanted) l.key (filled l.path-iterator)))

@@ -21,7 +21,7 @@ invariant_of-self-2 c =
     let goes_on = ap (λ v. is_none v.end) c.self.view_is ∙ c.requires.open in
     subst (λ xs. IsWorkOf c.perform.new.work xs u.stopped (behind_calls u.kind c.perform.new.work xs u.stopped))
     (sym (c.push_reserved.ensures.items ∙ ap (λ xs. xs ++ x ∷ []) c.in_ok-reserve.ensures.items))
-    (made u.kind u.work u.calls.items u.stopped c.self.invariant goes_on c.perform.new.work x c.in_ok-reply.ensures.goes_on c.in_ok-reply.ensures.ok c.in_ok-reply.ensures.kept)
+    (made u.kind u.work u.calls.items u.stopped c.self.invariant goes_on c.perform.new.work x c.in_ok-reply.ensures.goes_on c.in_ok-reply.ensures.ok c.in_ok-reply.ensures.marked)
 
 pub returns-clause-ok : goal.returns-clause-ok
 returns-clause-ok c =

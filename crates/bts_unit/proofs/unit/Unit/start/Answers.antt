@@ -13,7 +13,7 @@ pub invariant_of-result : goal.invariant_of-result
 invariant_of-result c =
     let kind = c.args.unit in
     subst (λ w. IsWorkOf w c.new.result.items None (run (start kind w.moment w.base.process) (commands_of c.new.result.items))) (sym c.in-Ok.ensures.ok)
-    (subst (λ xs. IsWorkOf (begun kind c.args.moment c.args.scope) xs None (run (start kind c.args.moment c.args.scope.process) (commands_of xs))) (sym c.new.ensures.items) (begun_is_work kind c.args.moment c.args.scope c.requires))
+    (subst (λ xs. IsWorkOf (begun kind c.args.moment c.args.scope.process) xs None (run (start kind c.args.moment c.args.scope.process) (commands_of xs))) (sym c.new.ensures.items) (begun_is_work kind c.args.moment c.args.scope.process c.requires))
 
 pub returns-in-Ok-clause-ok : goal.returns-in-Ok-clause-ok
 returns-in-Ok-clause-ok c =
