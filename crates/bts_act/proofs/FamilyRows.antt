@@ -1,5 +1,5 @@
 -- The rows on a process from an activity on, and those that are none.
-use Rattle.std.proofs.Common.{◌≡◌, ◌-◌, true, Some, is_some, Ok, Result, Option, None, refl, ap}
+use Rattle.std.proofs.Common.{◌≡◌, true, Some, is_some, Ok, Result, Option, None, refl, ap}
 use Rattle.bts_names.specs.Names.{ActivityPath}
 use Rattle.bts_names.specs.Answer.{Answer, at_some, mapped, refused}
 use Rattle.bts_names.specs.declared.reply.Resp.TheVariants as resp

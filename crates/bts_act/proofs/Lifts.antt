@@ -1,5 +1,5 @@
 -- What is done to a part of a process is done to the process.
-use Rattle.std.proofs.Common.{◌≡◌, ℕ, ◌<◌, true, false, cond, nat_lt, [], ◌∷◌, Option, Some, None, Result, Ok, Err, unwrap_or, option_map, refl, sym, ap, ◌∙◌, arith}
+use Rattle.std.proofs.Common.{◌≡◌, ℕ, ◌<◌, Bool, true, false, cond, nat_lt, [], ◌∷◌, Option, Some, None, Result, Ok, Err, unwrap_or, option_map, refl, sym, ap, ◌∙◌, arith}
 use Rattle.bts_names.specs.Names.{ActivityPath, same}
 use Rattle.bts_names.specs.Named.{lookup}
 use Rattle.bts_names.specs.Answer.{Answer, refused, done, mapped, reply_of, left_by}
@@ -10,7 +10,7 @@ use Rattle.bts_tree.specs.Activities.{Activities, changed_at, changed_by, writte
 use Rattle.bts_tree.specs.Processes.{Process, activities, activity_at, edited, written}
 use Rattle.bts_tree.specs.Soundness.{numbers_below}
 use Rattle.bts_rows.proofs.Entries.{all_at}
-use Rattle.bts_act.specs.Does.{Does, is_done}
+use Rattle.bts_act.specs.Does.{Does, Reads, is_done}
 
 -- ---- answers
 
@@ -30,6 +30,12 @@ left_mapped f old (done v x) = refl
 pub lift_does : {A B : Type 0} (f : A → B) (r : Result Reply NoMemory) (old new : A) (whole : B) (x : Answer A) → f old ≡ whole → Does r old new x → Does r whole (f new) (mapped f x)
 lift_does f (Ok reply) old new whole x e d = (d.0 ∙ sym (reply_mapped f x), ap f d.1 ∙ sym (left_mapped f old x) ∙ ap (λ o. left_by o (mapped f x)) e)
 lift_does f (Err none) old new whole x e d = (done_mapped f x ∙ d.0, ap f d.1 ∙ e)
+
+-- so it is where nothing is changed
+pub lift_reads : {A B : Type 0} (f : A → B) (only : Bool) (o : Option Reply) (s : A) (x : Answer A) → Reads only (Ok o) s x
+    → Reads only (Ok o) (f s) (mapped f x)
+lift_reads f only (Some reply) s x d = lift_does f (Ok reply) s s (f s) x refl d
+lift_reads f only None s x d = (done_mapped f x ∙ d.0, d.1)
 
 pub refuses : {A : Type 0} (r : Reply) (s : A) (x y : Answer A) → x ≡ y → r ≡ reply_of y → s ≡ left_by s y → Does (Ok r) s s x
 refuses r s x y e p q = (p ∙ ap reply_of (sym e), q ∙ ap (left_by s) (sym e))

@@ -9,6 +9,7 @@ ghost use Rattle.bts_act.specs.Built.{is_built};
 use crate::tests::{is_free, named, numbered, root_scope};
 use crate::{none_is_early, perform};
 use bts_command::{Command, Target};
+use bts_container::Format;
 use bts_names::{Mode, Moment, Path, ProgName, Reason, Reply, Resp, Status, Transid, Value};
 use bts_rows::Here;
 use bts_tree::{Activity, Repository, Scope};
@@ -106,7 +107,8 @@ fn expects(parent: &mut Activity, mode: Mode) -> bool {
 fn child(alloc: Global, mode: Mode) -> Option<Activity> {
     let transid = Transid::read(b"CH1".as_slice()).ok()?;
     let program = ProgName::read(b"ANY".as_slice()).ok()?;
-    let mut child = Activity::new(alloc, named("CHILD"), transid, program, Some(named("DONE")));
+    let done = Some(named("DONE"));
+    let mut child = Activity::new(alloc, Format::One, named("CHILD"), transid, program, done);
     child.mode = mode;
     if matches!(mode, Mode::Complete) {
         child.status = Status::Normal;

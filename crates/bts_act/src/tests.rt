@@ -8,6 +8,7 @@ ghost use Rattle.bts_command.specs.Given.{IsGiven, is_systems};
 
 use crate::{act, none_is_early};
 use bts_command::{Command, Due, Names, Spot};
+use bts_container::Format;
 use bts_event::{Event, Trigger};
 use bts_names::{
     Blob, EventKind, Key, Moment, Name16, Path, ProcName, ProcType, ProgName, Reason, Reply, Resp,
@@ -64,8 +65,8 @@ pub(crate) fn root_scope(alloc: Global) -> Option<Scope> {
     };
     let transid = Transid::read(b"ORD1".as_slice()).ok()?;
     let program = ProgName::read(b"ANY".as_slice()).ok()?;
-    let mut scope = Scope::undefined(alloc, key);
-    let root = Activity::new_root(alloc, transid, program);
+    let mut scope = Scope::undefined(alloc, Format::One, key);
+    let root = Activity::new_root(alloc, scope.format(), transid, program);
     if scope.has_tree() || scope.generation() > 1000 {
         return None;
     }

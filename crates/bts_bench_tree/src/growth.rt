@@ -5,6 +5,7 @@ ghost use Rattle.bts_tree.specs.Repositories as repo;
 use crate::fault::Fault;
 use crate::names::{key_numbered, name_numbered, new_activity, new_root};
 use crate::size::Size;
+use bts_container::Format;
 use bts_names::{Key, Moment, Name16, Path};
 use bts_tree::{Activity, Repository, Scope};
 use std::alloc::Global;
@@ -36,7 +37,7 @@ pub fn put(repository: &mut Repository, scope: Scope) -> Result<(), Fault>
 
 /// A process of so many activities.
 fn process_of(alloc: Global, key: Key, activities: u32) -> Result<Scope, Fault> {
-    let mut scope = Scope::undefined(alloc, key);
+    let mut scope = Scope::undefined(alloc, Format::One, key);
     let mut root = new_root(alloc)?;
     fill(alloc, &mut root)?;
     if scope.plant(alloc, root).is_err() {

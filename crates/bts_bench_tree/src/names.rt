@@ -1,5 +1,6 @@
 // The names of what is measured.
 use crate::fault::Fault;
+use bts_container::Format;
 use bts_names::{Key, Name16, ProcName, ProcType, ProgName, Transid};
 use bts_tree::Activity;
 use std::alloc::Global;
@@ -23,11 +24,11 @@ pub fn new_activity(alloc: Global, number: u32) -> Result<Activity, Fault> {
     let name = name_numbered(alloc, "A", number)?;
     let transid = Transid::read(b"TRAN".as_slice())?;
     let program = ProgName::read(b"PROGRAM".as_slice())?;
-    Ok(Activity::new(alloc, name, transid, program, Some(name)))
+    Ok(Activity::new(alloc, Format::One, name, transid, program, Some(name)))
 }
 
 pub fn new_root(alloc: Global) -> Result<Activity, Fault> {
     let transid = Transid::read(b"TRAN".as_slice())?;
     let program = ProgName::read(b"PROGRAM".as_slice())?;
-    Ok(Activity::new_root(alloc, transid, program))
+    Ok(Activity::new_root(alloc, Format::One, transid, program))
 }

@@ -6,9 +6,9 @@ use Rattle.bts_container.specs.declared.put_error.PutError.{PutError}
 use Rattle.bts_container.specs.declared.put_error.PutError.TheVariants as put_error
 
 abbrev pub refusal_of_put : Name → Bytes → Containers → Option PutError
-refusal_of_put n bytes containers =
-    if is_long bytes then Some put_error.Long
-    else if has_no_room n containers then Some put_error.Limit
+refusal_of_put n bytes x =
+    if is_long bytes x.format then Some put_error.Long
+    else if has_no_room n x then Some put_error.Limit
     else None
 
 -- refused exactly so, and else done or out of memory

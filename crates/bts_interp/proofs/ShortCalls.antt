@@ -14,15 +14,17 @@ use Rattle.bts_command.specs.Sizes.{call_bytes, data_bytes, got_bytes, put_bytes
 use Rattle.bts_command.specs.declared.command.Call.{Call}
 use Rattle.bts_command.specs.declared.command.Command.{Command}
 use Rattle.bts_command.specs.declared.ended.UnitKind.{UnitKind}
-use Rattle.bts_container.specs.Containers.{size_limit}
+use Rattle.bts_container.specs.Formats.{size_limit}
+use Rattle.bts_container.specs.declared.format.Format.{Format}
 use Rattle.bts_forms.specs.Sizes.{IsShort, said_bytes}
 use Rattle.bts_forms.specs.declared.statement.Given.{Given}
 use Rattle.bts_forms.specs.declared.statement.Given.TheVariants as given
 use Rattle.bts_unit.specs.Calls.{call, commands_of, unit_behind}
-use Rattle.bts_tree.specs.Processes.{Process}
+use Rattle.bts_tree.specs.Processes.{Process, format_of}
 use Rattle.bts_tree.specs.Soundness.{IsSoundInFrames}
 use Rattle.bts_unit.specs.Frames.{OpenFrame, UnitOfWork, path_of, start}
 use Rattle.bts_unit.specs.OneFrame.{is_of_one_frame, may_begin}
+use Rattle.bts_unit.proofs.BoundedUnits.{run_format}
 use Rattle.bts_unit.proofs.SoundUnits.{runs_sound}
 use Rattle.bts_unit.specs.Replays.{IsFit}
 use Rattle.bts_unit.specs.Soundness.{IsSoundUnit}
@@ -148,15 +150,16 @@ last_command : (before : List Call) (c : Call) → command_at (before ++ c ∷ [
 last_command [] c = refl
 last_command (x ∷ xs) c = last_command xs c
 
--- the unit is sound in front of each of its calls
-abbrev SoundInFront : UnitOfWork → List Call → Type 0
-SoundInFront u calls = (before rest : List Call) → calls ≡ before ++ rest → IsSoundUnit (unit_behind u before)
+-- the unit is sound in front of each of its calls, and its process in this format
+abbrev SoundInFront : Format → UnitOfWork → List Call → Type 0
+SoundInFront f u calls =
+    (before rest : List Call) → calls ≡ before ++ rest → IsSoundUnit (unit_behind u before) × (format_of (unit_behind u before).now.process ≡ f)
 
-calls_short : (m : ℕ) (texts : Texts) (u : UnitOfWork) (calls : List Call) → data_limit ≤ m → AreShortTexts m texts → IsFit u → u.calls ≡ [] → SoundInFront u calls
-    → (unit_behind u calls).calls ≡ calls → Follows texts u calls → data_bytes calls ≤ most_data m
-calls_short m texts u calls large short fit fresh sound made follows = by (end_of calls) sound made follows
+calls_short : (f : Format) (m : ℕ) (texts : Texts) (u : UnitOfWork) (calls : List Call) → data_limit ≤ m → AreShortTexts m texts → IsFit u → u.calls ≡ [] → SoundInFront f u calls
+    → (unit_behind u calls).calls ≡ calls → Follows texts u calls → data_bytes calls ≤ most_data f m
+calls_short f m texts u calls large short fit fresh sound made follows = by (end_of calls) sound made follows
   where
-    by : {calls : List Call} → Ends calls → SoundInFront u calls → (unit_behind u calls).calls ≡ calls → Follows texts u calls → data_bytes calls ≤ most_data m
+    by : {calls : List Call} → Ends calls → SoundInFront f u calls → (unit_behind u calls).calls ≡ calls → Follows texts u calls → data_bytes calls ≤ most_data f m
     by empty sound made follows = omega arith
     by (behind before c) sound made follows =
         let many : length (before ++ c ∷ []) ≡ length before + 1 = length-append before (c ∷ []) in
@@ -165,7 +168,9 @@ calls_short m texts u calls large short fit fresh sound made follows = by (end_o
         let so_far : data_bytes before ≤ data_limit = subst (λ (p : List Call). data_bytes p ≤ data_limit) front (follows.bytes (length before) inside) in
         let next : next_command texts u before ≡ Some c.command = subst (λ (p : List Call). next_command texts u p ≡ Some c.command) front (follows.commands (length before) inside ∙ last_command before c) in
         let put : put_bytes c.command ≤ m = command_short m texts u short before c.command (next_call texts u before) (next_short m texts u short before) next (omega (arith, so_far, large)) in
-        let got : got_bytes c.reply.value ≤ size_limit = subst (λ r. got_bytes r.value ≤ size_limit) (sym (reply_given u before c [] fit fresh made)) (reply_short (unit_behind u before) c.command (sound before (c ∷ []) refl)) in
+        let so = sound before (c ∷ []) refl in
+        let short_reply = subst (λ g. got_bytes (call (unit_behind u before) c.command).0.value ≤ size_limit g) so.1 (reply_short (unit_behind u before) c.command so.0) in
+        let got : got_bytes c.reply.value ≤ size_limit f = subst (λ r. got_bytes r.value ≤ size_limit f) (sym (reply_given u before c [] fit fresh made)) short_reply in
         let sum : data_bytes (before ++ c ∷ []) ≡ data_bytes before + data_bytes (c ∷ []) = sum_by-append call_bytes before (c ∷ []) in
         let last : data_bytes (c ∷ []) ≡ call_bytes c + data_bytes [] = sum_by-cons call_bytes c [] in
         omega (arith, sum, last, so_far, put, got)
@@ -175,17 +180,17 @@ asked_in at [] rest h = tt
 asked_in at (c ∷ cs) rest h = ((h.0.given, may_in at c.command h.0), asked_in at cs rest h.1)
 
 sound_in_front : (texts : Texts) (kind : UnitKind) (moment : ℕ) (s : Process) (calls : List Call) → AreExecutable texts → may_begin kind s ≡ true → IsSoundInFrames [] s → Follows texts (start kind moment s) calls
-    → SoundInFront (start kind moment s) calls
+    → SoundInFront (format_of s) (start kind moment s) calls
 unfolding unit_behind
 sound_in_front texts kind moment s calls executable may sound follows before rest e =
-    runs_sound kind moment s (commands_of before) may sound
-    (asked_in (path_of kind) before rest (subst (λ (l : List Call). AllByRecursion MayBeCalled (commands_of l)) e (follows_may texts (start kind moment s) executable calls follows)))
+    let asked = asked_in (path_of kind) before rest (subst (λ (l : List Call). AllByRecursion MayBeCalled (commands_of l)) e (follows_may texts (start kind moment s) executable calls follows)) in
+    (runs_sound kind moment s (commands_of before) may sound asked, run_format kind moment s (commands_of before) may sound asked)
 
 -- what a unit carries that follows texts
 pub carries_little : (m : ℕ) (texts : Texts) (kind : UnitKind) (moment : ℕ) (s : Process) (calls : List Call) → data_limit ≤ m → AreShortTexts m texts → AreExecutable texts → may_begin kind s ≡ true → IsSoundInFrames [] s
-    → (unit_behind (start kind moment s) calls).calls ≡ calls → Follows texts (start kind moment s) calls → data_bytes calls ≤ most_data m
+    → (unit_behind (start kind moment s) calls).calls ≡ calls → Follows texts (start kind moment s) calls → data_bytes calls ≤ most_data (format_of s) m
 carries_little m texts kind moment s calls large short executable may sound made follows =
-    calls_short m texts (start kind moment s) calls large short refl refl (sound_in_front texts kind moment s calls executable may sound follows) made follows
+    calls_short (format_of s) m texts (start kind moment s) calls large short refl refl (sound_in_front texts kind moment s calls executable may sound follows) made follows
 
 -- ---- the texts of a session
 

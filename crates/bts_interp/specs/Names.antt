@@ -1,7 +1,7 @@
 -- What a region and its jobs are of.
 use Rattle.std.specs.Prelude.{ℕ, []}
 use Rattle.bts_session.specs.declared.session.Session.{Session}
-use Rattle.bts_tree.specs.Repositories.{stored_of}
+use Rattle.bts_tree.specs.Repositories.{nothing_stored}
 use Rattle.bts_tree.specs.declared.opening.Opening.{Opening}
 
 -- the session, what the history goes on from, and the most activations
@@ -12,7 +12,7 @@ pub record Named : Type 0 where
 
 -- no process, no unit, and the first moment
 abbrev pub nowhere : Opening
-nowhere = record { repo = stored_of []; units = 0; moment = 0 }
+nowhere = record { repo = nothing_stored; units = 0; moment = 0 }
 
 abbrev pub nothing : Named
 nothing = record { session = record { items = []; programs = [] }; opening = nowhere; limit = 0 }

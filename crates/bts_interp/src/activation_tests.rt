@@ -9,6 +9,7 @@ ghost use Rattle.bts_unit.specs.Soundness.{IsSoundUnit, IsSoundWithin};
 
 use crate::{Job, Naming, Steps, run_job};
 use bts_command::{Command, End, Target, UnitKind};
+use bts_container::Format;
 use bts_forms::{Script, Statement};
 use bts_names::{Abcode, Key, Moment, Path, ProcName, ProcType, ProgName, Status, Transid};
 use bts_script::Programs;
@@ -33,7 +34,7 @@ fn a_request(alloc: Global, key: &Key, moment: Moment) -> Option<Unit>
     ensures within { IfSome result (λ u. IsSoundWithin 0 (0 + length u.calls) u) }
 {
     let kind = UnitKind::Request { item: 1, key: *key };
-    let base = Scope::undefined(alloc, *key);
+    let base = Scope::undefined(alloc, Format::One, *key);
     match Unit::start(alloc, base, kind, moment) {
         Ok(unit) => Some(unit),
         Err(_) => None,

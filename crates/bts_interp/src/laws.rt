@@ -4,7 +4,7 @@ ghost use Rattle.bts_command.specs.Sizes.{data_bytes};
 ghost use Rattle.bts_command.specs.declared.command.Call.{Call};
 ghost use Rattle.bts_command.specs.declared.ended.End.{End};
 ghost use Rattle.bts_command.specs.declared.ended.UnitKind.{UnitKind};
-ghost use Rattle.bts_tree.specs.Processes.{Process};
+ghost use Rattle.bts_tree.specs.Processes.{Process, format_of};
 ghost use Rattle.bts_tree.specs.Soundness.{IsSoundInFrames};
 ghost use Rattle.bts_unit.specs.Frames.{start};
 ghost use Rattle.bts_unit.specs.OneFrame.{may_begin};
@@ -27,12 +27,13 @@ pub fn texts_allow_one_talk()
 {}
 
 /// A unit that follows texts, of which no statement says more bytes for a container than so many, carries no more than
-/// those, the 8,388,608 that may stand in front of its last call, and the 32,768 that this call may be answered.
+/// those, the 8,388,608 that may stand in front of its last call, and those of the longest container of the process's
+/// format, which this call may be answered: 32,768 in the first one.
 pub fn what_a_unit_carries_is_short()
     ensures of_texts { (most : ℕ) (texts : Texts) (kind : UnitKind) (moment : ℕ) (s : Process) (calls : List Call)
         → data_limit ≤ most → AreShortTexts most texts → AreExecutable texts → may_begin kind s ≡ true → IsSoundInFrames [] s
         → let u = start kind moment s in (unit_behind u calls).calls ≡ calls → Follows texts u calls
-        → data_bytes calls ≤ most_data most }
+        → data_bytes calls ≤ most_data (format_of s) most }
     ensures of_a_session { (most : ℕ) (session : Session) (kind : UnitKind) → IsShortSession most session
         → AreShortTexts most (texts_of session kind) }
 {}

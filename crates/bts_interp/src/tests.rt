@@ -7,6 +7,7 @@ ghost use Rattle.bts_interp.specs.Ready.{AreExecutable, IsExecutable, MayBeExecu
 
 use crate::{Job, Naming, Steps, run_job};
 use bts_command::{Command, End, Spot, Target, UnitKind};
+use bts_container::Format;
 use bts_forms::{Cond, Given, Script, Statement};
 use bts_names::{Abcode, Key, Moment, Name16, ProcName, ProcType, ProgName, Resp, Transid};
 use bts_script::Programs;
@@ -50,7 +51,7 @@ fn a_request<N: Naming>(alloc: Global, key: &Key, session: Session) -> Option<Jo
     let moment = Moment::from_seconds(0)?;
     let session = shared(alloc, session)?;
     let kind = UnitKind::Request { item: 1, key: *key };
-    let base = Scope::undefined(alloc, *key);
+    let base = Scope::undefined(alloc, Format::One, *key);
     Some(Job::new(1, kind, base, moment, session))
 }
 

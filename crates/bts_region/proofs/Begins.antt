@@ -13,7 +13,8 @@ use Rattle.bts_region.specs.Serial.{activations_in}
 use Rattle.bts_region.specs.Today.{IsOfToday, IsSmall, MayOpen}
 use Rattle.bts_region.specs.declared.region.Region.TheInside.{Inside}
 use Rattle.bts_rows.specs.Bounds.{is_lone}
-use Rattle.bts_tree.specs.Repositories.{Stored, stored_of}
+use Rattle.bts_container.specs.declared.format.Format.TheVariants as format
+use Rattle.bts_tree.specs.Repositories.{Stored, nothing_stored}
 use Rattle.bts_tree.specs.Soundness.{AreSound, bound_of_units}
 use Rattle.bts_tree.proofs.New.{nothing_is_sound}
 
@@ -55,7 +56,7 @@ module _ {N : Type 0} (name : Named) (s : Inside N) (b : Begins name s) where
     next_out = subst (IsNextOut s.session.value s.items_ended) (sym b.out) tt;
     sound = subst AreSound (sym b.processes) may.sound;
     within = subst (λ n. bound_of_units n s.repository.processes ≡ true) (sym b.units) (subst (λ repo. bound_of_units name.opening.units repo ≡ true) (sym b.processes) may.bound);
-    lone = subst (λ repo. list_all is_lone repo ≡ true) (sym b.processes) may.lone;
+    lone = subst (λ repo. list_all is_lone repo.items ≡ true) (sym b.processes) may.lone;
     awake = b.awake;
     may_open = may;
     today = subst IsOfToday (sym b.session) today;
@@ -63,10 +64,10 @@ module _ {N : Type 0} (name : Named) (s : Inside N) (b : Begins name s) where
   }
 
 -- what has no process and no unit can be gone on from
-pub opens_nowhere : (repo : Stored) (moment : ℕ) → repo ≡ stored_of [] → MayOpen (record { repo = repo; units = 0; moment = moment })
+pub opens_nowhere : (repo : Stored) (moment : ℕ) → repo ≡ nothing_stored → MayOpen (record { repo = repo; units = 0; moment = moment })
 opens_nowhere repo moment e = record {
-  sound = subst (λ (r : Stored). AreSound r.processes) (sym e) nothing_is_sound;
-  lone = subst (λ (r : Stored). list_all is_lone r.processes ≡ true) (sym e) refl;
+  sound = subst (λ (r : Stored). AreSound r.processes) (sym e) (nothing_is_sound format.One);
+  lone = subst (λ (r : Stored). list_all is_lone r.processes.items ≡ true) (sym e) refl;
   bound = subst (λ (r : Stored). bound_of_units 0 r.processes ≡ true) (sym e) refl;
   few = omega arith;
 }

@@ -24,13 +24,13 @@ use Rattle.bts_command.specs.Kinds.{is_kept, is_rollback, key_of}
 use Rattle.bts_region.specs.Positions.{Position}
 use Rattle.bts_rows.specs.Bounds.{is_lone}
 use Rattle.bts_rows.proofs.Bounds.{within_more}
-use Rattle.bts_rows.proofs.Repositories.{put_all, put_sound}
+use Rattle.bts_rows.proofs.Repositories.{put_all}
 use Rattle.bts_session.specs.declared.session.Item.{Item}
 use Rattle.bts_session.specs.declared.session.Item.TheVariants as item
 use Rattle.bts_session.specs.declared.session.Session.{Session}
 use Rattle.bts_tree.specs.Processes.{Process}
 use Rattle.bts_tree.specs.Repositories.{Processes, process_at, put}
-use Rattle.bts_tree.specs.Soundness.{AreSound, IsSoundInFrames, bound_of_units, is_within}
+use Rattle.bts_tree.specs.Soundness.{bound_of_units, is_within}
 use Rattle.bts_unit.proofs.Applied.{within_all}
 use Rattle.bts_unit.specs.Frames.{OpenFrame, UnitOfWork}
 use Rattle.bts_unit.specs.Ends.{abended_whole}
@@ -191,19 +191,14 @@ few_out session count (unit.Browse n) o l = absurd o
 -- ---- the processes
 
 module _ (s : Process) (repo : Processes) where
-  pub sound_behind : (e : End) → AreSound repo → IsSoundInFrames [] s → AreSound (put_back e (Some s) repo)
-  sound_behind Commit sound own = put_sound s repo sound own
-  sound_behind Rollback sound own = sound
-  sound_behind (Abend code) sound own = put_sound s repo sound own
-
-  pub lone_behind : (e : End) → list_all is_lone repo ≡ true → is_lone s ≡ true → list_all is_lone (put_back e (Some s) repo) ≡ true
+  pub lone_behind : (e : End) → list_all is_lone repo.items ≡ true → is_lone s ≡ true → list_all is_lone (put_back e (Some s) repo).items ≡ true
   lone_behind Commit all own = put_all is_lone s repo all own
   lone_behind Rollback all own = all
   lone_behind (Abend code) all own = put_all is_lone s repo all own
 
   within_put : (units : ℕ) → bound_of_units units repo ≡ true → is_within (units + 1) (512 * units + 500) s ≡ true → bound_of_units (units + 1) (put s repo) ≡ true
   within_put units all own =
-      put_all (is_within (units + 1) (512 * (units + 1))) s repo (within_all units (512 * units) (units + 1) (512 * (units + 1)) (omega arith) (omega arith) repo all)
+      put_all (is_within (units + 1) (512 * (units + 1))) s repo (within_all units (512 * units) (units + 1) (512 * (units + 1)) (omega arith) (omega arith) repo.items all)
       (within_more (units + 1) (512 * units + 500) (units + 1) (512 * (units + 1)) s own (omega arith) (omega arith))
 
   pub within_behind : (e : End) (units : ℕ) → bound_of_units units repo ≡ true → is_within (units + 1) (512 * units + 500) s ≡ true

@@ -45,7 +45,7 @@ pub record Enters {N : Type 0} (name : Named) (r s : Inside N) (e : Ended) : Typ
   -- the processes
   pub sound : AreSound s.repository.processes
   pub within : bound_of_units s.units s.repository.processes ≡ true
-  pub lone : list_all is_lone s.repository.processes ≡ true
+  pub lone : list_all is_lone s.repository.processes.items ≡ true
   pub awake : AreAwake s.repository
 
 first_behind : (b : Bool) (count : ℕ) (ended : List ℕ) → AreFirst count ended → AreFirst (cond b (count + 1) count) (with_item (cond b (Some (count + 1)) None) ended)

@@ -25,14 +25,15 @@ use Rattle.bts_region.specs.Serial.{activations_in}
 use Rattle.bts_region.specs.declared.finishing.Due.{Due}
 use Rattle.bts_region.specs.declared.region.Region.TheInside.{Inside}
 use Rattle.bts_region.proofs.Counts.{one_if}
-use Rattle.bts_region.proofs.Ending.{counted_out, few_out, item_out, kept_out, left_behind, lone_behind, next_is, sound_behind, within_behind}
+use Rattle.bts_region.proofs.Ending.{counted_out, few_out, item_out, kept_out, left_behind, lone_behind, next_is, within_behind}
 use Rattle.bts_region.proofs.Entering.{Enters, is_entered}
-use Rattle.bts_region.proofs.Left.{done_key, done_lone, done_sound, done_within}
+use Rattle.bts_region.proofs.Left.{done_format, done_key, done_lone, done_sound, done_within}
 use Rattle.bts_region.proofs.Runnable.{out_enabled, out_next, out_runnable}
 use Rattle.bts_unit.proofs.Applied.{key_there}
+use Rattle.bts_unit.proofs.Committed.{put_back_sound}
 use Rattle.bts_rows.specs.Bounds.{is_lone}
-use Rattle.bts_rows.proofs.Repositories.{lone_at, within_at}
-use Rattle.bts_tree.specs.Processes.{Process}
+use Rattle.bts_rows.proofs.Repositories.{format_at, lone_at, within_at}
+use Rattle.bts_tree.specs.Processes.{Process, format_of}
 use Rattle.bts_tree.specs.Repositories.{process_at}
 use Rattle.bts_tree.specs.Soundness.{AreSound, bound_of_units, is_within}
 use Rattle.bts_unit.specs.Playing.{after, put_back}
@@ -149,7 +150,9 @@ module _ {N : Type 0} (name : Named) (r : Inside N) (k : Keeps name r) (u : Unit
       units = t.units ∙ sym (ap (λ b. cond (b && not (is_rollback d.end)) (r.units + 1) r.units) kept);
       items = t.items;
       activations = t.activations;
-      sound = subst AreSound (sym t.processes) (sound_behind d.after r.repository.processes d.end k.sound (done_sound d is_runnable f.done));
+      sound =
+          let format = done_format d is_runnable f.done ∙ ap format_of base ∙ format_at key r.repository.processes k.sound in
+          subst AreSound (sym t.processes) (put_back_sound d.end d.after r.repository.processes k.sound format (done_sound d is_runnable f.done));
       within =
           let own = done_within d is_runnable f.done r.units (512 * r.units) (subst (λ b. is_within r.units (512 * r.units) b ≡ true) (sym base) (within_at r.units (512 * r.units) key r.repository.processes k.within)) in
           subst (λ n. bound_of_units n s.repository.processes ≡ true) (sym t.units)
@@ -157,7 +160,7 @@ module _ {N : Type 0} (name : Named) (r : Inside N) (k : Keeps name r) (u : Unit
           (within_behind d.after r.repository.processes d.end r.units k.within own));
       lone =
           let own = done_lone d is_runnable f.done (subst (λ b. is_lone b ≡ true) (sym base) (lone_at key r.repository.processes k.lone)) in
-          subst (λ repo. list_all is_lone repo ≡ true) (sym t.processes) (lone_behind d.after r.repository.processes d.end k.lone own);
+          subst (λ repo. list_all is_lone repo.items ≡ true) (sym t.processes) (lone_behind d.after r.repository.processes d.end k.lone own);
       awake = t.awake k.awake;
     }
 

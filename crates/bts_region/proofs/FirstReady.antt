@@ -1,7 +1,7 @@
 -- The first activation that is enabled is enabled where it stands.
 use Rattle.std.proofs.Common.{◌≡◌, Bool, true, false, cond, List, [], ◌∷◌, ◌++◌, map, Option, None, Some, unwrap_or, is_eq, refl, sym, ap, subst, ◌∙◌}
 use Rattle.std.specs.Cmp.Lexicographic.{slice_cmp}
-use Rattle.std.specs.List.{AllByRecursion, filter}
+use Rattle.std.specs.List.{AllByRecursion, filter, flat_map}
 use Rattle.std.specs.List.Sorted.{IsStrictlySortedBy}
 use Rattle.std.specs.Map.{keys_of}
 use Rattle.std.specs.Option.{option_map}
@@ -17,8 +17,9 @@ use Rattle.bts_names.specs.declared.key.Key.{Key}
 use Rattle.bts_names.proofs.Sameness.{same_where_equal}
 use Rattle.bts_tree.proofs.Slots.{key_total}
 use Rattle.bts_tree.specs.Activities.{Activities, is_ready}
-use Rattle.bts_tree.specs.Processes.{Process, activities}
-use Rattle.bts_tree.specs.Repositories.{Place, Processes, chosen_of, is_ready_at, keys_of_processes, process_at, ready_in, same_key}
+use Rattle.bts_container.specs.declared.format.Format.{Format}
+use Rattle.bts_tree.specs.Processes.{Process, activities, no_process}
+use Rattle.bts_tree.specs.Repositories.{Place, Processes, chosen_of, found_or, is_ready_at, ready_in, same_key}
 use Rattle.bts_tree.specs.Soundness.{AreSound, IsSoundInFrames, IsSoundUnder}
 use Rattle.bts_tree.specs.declared.activity.Activity.{Activity}
 
@@ -97,10 +98,16 @@ of_key : (P : Place → Type 0) (key : Key) → ((p : ActivityPath) → P (key, 
 of_key P key h [] = tt
 of_key P key h (x ∷ xs) = (h x.0, of_key P key h xs)
 
-places_behind : (key : Key) (repo : Processes) → AllByRecursion (λ k. key_cmp key k ≡ Less) (keys_of_processes repo) → AllByRecursion (λ (x : Place). key_cmp key x.0 ≡ Less) (ready_in repo)
+abbrev readies_of : List Process → List Place
+readies_of ss = flat_map (chosen_of is_ready) ss
+
+abbrev keys_in : List Process → List Key
+keys_in ss = map (λ s. s.key) ss
+
+places_behind : (key : Key) (ss : List Process) → AllByRecursion (λ k. key_cmp key k ≡ Less) (keys_in ss) → AllByRecursion (λ (x : Place). key_cmp key x.0 ≡ Less) (readies_of ss)
 places_behind key [] h = tt
-places_behind key (s ∷ repo) h =
-    both_all (λ (x : Place). key_cmp key x.0 ≡ Less) (chosen_of is_ready s) (ready_in repo) (of_key (λ (x : Place). key_cmp key x.0 ≡ Less) s.key (λ p. h.0) (readies (activities s))) (places_behind key repo h.1)
+places_behind key (s ∷ ss) h =
+    both_all (λ (x : Place). key_cmp key x.0 ≡ Less) (chosen_of is_ready s) (readies_of ss) (of_key (λ (x : Place). key_cmp key x.0 ≡ Less) s.key (λ p. h.0) (readies (activities s))) (places_behind key ss h.1)
 
 equal_itself : (o : Ordering) → o ≡ ordering_reverse o → o ≡ Equal
 equal_itself Less h = cc
@@ -113,21 +120,27 @@ itself key = equal_itself (key_cmp key key) (key_total.antisymm key key)
 other_key : (a b : Key) → key_cmp a b ≡ Less → same_key b a ≡ false
 other_key a b l = ap is_eq (key_total.antisymm b a ∙ ap ordering_reverse l)
 
-ready_among : (repo : Processes) → IsStrictlySortedBy key_cmp (keys_of_processes repo) → AllByRecursion (IsSoundInFrames []) repo → (x : Place) (xs : List Place) → ready_in repo ≡ x ∷ xs → is_ready_at x.0 x.1 repo ≡ true
-ready_among [] s h x xs e = cc
-ready_among (t ∷ repo) s h x xs e = by (λ q. ready_among repo (sorted_tail key_cmp t.key (keys_of_processes repo) s) h.1 x xs q) (chosen_of is_ready t) refl e
-  where
-    by : (ready_in repo ≡ x ∷ xs → is_ready_at x.0 x.1 repo ≡ true) → (places : List Place) → chosen_of is_ready t ≡ places → places ++ ready_in repo ≡ x ∷ xs → is_ready_at x.0 x.1 (t ∷ repo) ≡ true
-    by others [] q w =
-        ap (λ b. is_ready_there x.1 (activities (cond b t (process_at x.0 repo))))
-        (other_key t.key x.0 (first_all (λ (y : Place). key_cmp t.key y.0 ≡ Less) x xs (ready_in repo) (places_behind t.key repo (sorted_head key_cmp t.key (keys_of_processes repo) s)) w))
-        ∙ others w
-    by others (y ∷ ys) q w =
-        let here = ready_of t h.0 x ys (q ∙ ap (λ z. z ∷ ys) (first_place w)) in
-        ap (λ b. is_ready_there x.1 (activities (cond b t (process_at x.0 repo)))) (ap is_eq (ap (λ k. key_cmp k t.key) here.0 ∙ itself t.key)) ∙ here.1
-      where
-        first_place : y ∷ (ys ++ ready_in repo) ≡ x ∷ xs → y ≡ x
-        first_place w = cc
+module _ (f : Format) where
+  abbrev at_key : Key → List Process → Process
+  at_key key ss = found_or (no_process f key) key ss
+
+  ready_among : (ss : List Process) → IsStrictlySortedBy key_cmp (keys_in ss) → AllByRecursion (IsSoundInFrames []) ss → (x : Place) (xs : List Place) → readies_of ss ≡ x ∷ xs
+      → is_ready_there x.1 (activities (at_key x.0 ss)) ≡ true
+  ready_among [] s h x xs e = cc
+  ready_among (t ∷ ss) s h x xs e = by (λ q. ready_among ss (sorted_tail key_cmp t.key (keys_in ss) s) h.1 x xs q) (chosen_of is_ready t) refl e
+    where
+      by : (readies_of ss ≡ x ∷ xs → is_ready_there x.1 (activities (at_key x.0 ss)) ≡ true) → (places : List Place) → chosen_of is_ready t ≡ places → places ++ readies_of ss ≡ x ∷ xs
+          → is_ready_there x.1 (activities (at_key x.0 (t ∷ ss))) ≡ true
+      by others [] q w =
+          ap (λ b. is_ready_there x.1 (activities (cond b t (at_key x.0 ss))))
+          (other_key t.key x.0 (first_all (λ (y : Place). key_cmp t.key y.0 ≡ Less) x xs (readies_of ss) (places_behind t.key ss (sorted_head key_cmp t.key (keys_in ss) s)) w))
+          ∙ others w
+      by others (y ∷ ys) q w =
+          let here = ready_of t h.0 x ys (q ∙ ap (λ z. z ∷ ys) (first_place w)) in
+          ap (λ b. is_ready_there x.1 (activities (cond b t (at_key x.0 ss)))) (ap is_eq (ap (λ k. key_cmp k t.key) here.0 ∙ itself t.key)) ∙ here.1
+        where
+          first_place : y ∷ (ys ++ readies_of ss) ≡ x ∷ xs → y ≡ x
+          first_place w = cc
 
 pub first_is_ready : (repo : Processes) → AreSound repo → (x : Place) (xs : List Place) → ready_in repo ≡ x ∷ xs → is_ready_at x.0 x.1 repo ≡ true
-first_is_ready repo sound x xs e = ready_among repo sound.keys_rise sound.each x xs e
+first_is_ready repo sound x xs e = ready_among repo.format repo.items sound.keys_rise sound.each x xs e

@@ -12,13 +12,13 @@ use Rattle.bts_rows.specs.declared.places.Held.{Held}
 use Rattle.bts_rows.specs.declared.places.Held.TheVariants as held
 use Rattle.bts_rows.proofs.Bounds.{within_more}
 use Rattle.bts_rows.proofs.Acquiring.{raised_once}
-use Rattle.bts_tree.specs.Processes.{Process}
+use Rattle.bts_tree.specs.Processes.{Process, format_of}
 use Rattle.bts_tree.specs.Soundness.{IsSoundInFrames, is_within}
 use Rattle.bts_unit.specs.Calls.{commands_of, run, unit_behind}
 use Rattle.bts_unit.specs.Frames.{UnitOfWork, path_of, start}
 use Rattle.bts_unit.specs.OneFrame.{may_begin}
 use Rattle.bts_unit.specs.Playing.{begun, budgeted}
-use Rattle.bts_unit.proofs.BoundedUnits.{AreAsked, abended_by, any, key_rises, left_by_abend, lone, lone_rises, makes_none, of_key, within, within_rises}
+use Rattle.bts_unit.proofs.BoundedUnits.{AreAsked, abended_by, any, format_rises, key_rises, left_by_abend, lone, lone_rises, makes_none, of_format, of_key, within, within_rises}
 use Rattle.bts_unit.proofs.Rising.{Rises}
 use Rattle.bts_interp.specs.Jobs as jobs
 use Rattle.bts_interp.specs.Ready.{IsRunnable, MayBeCalled}
@@ -128,6 +128,9 @@ module _ (d : jobs.Done) (r : IsRunnable d.job.unit d.job.base d.job.texts) (i :
 
   pub done_key : d.after.key ≡ d.job.base.key
   done_key = (left (of_key d.job.base.key) any (key_rises d.job.base.key) any_may 0 d r i refl).4
+
+  pub done_format : format_of d.after ≡ format_of d.job.base
+  done_format = (left (of_format (format_of d.job.base)) any (format_rises (format_of d.job.base)) any_may 0 d r i refl).4
 
   -- the generation rises once at most, and each number by one a call at most
   pub done_within : (g n : ℕ) → is_within g n d.job.base ≡ true → is_within (g + 1) (n + 500) d.after ≡ true

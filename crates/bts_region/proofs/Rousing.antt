@@ -1,8 +1,8 @@
 -- What the index keeps where room is made, a process is put, and a key is given up.
 use Rattle.std.proofs.Common.{OnOk, Result, Ok, Err, ◌≡◌, Bool, true, false, not, ◌||◌, refl, sym, ap, ◌∙◌}
 use Rattle.std.proofs.lemmas.Bool.{and_parts}
-use Rattle.bts_index.specs.Indexes.{has_key, is_awake, is_still_kept}
-use Rattle.bts_index.proofs.Keys.{has_only}
+use Rattle.bts_tree.specs.Indexes.{has_key, is_awake, is_still_kept}
+use Rattle.bts_tree.proofs.Keys.{has_only}
 use Rattle.bts_names.specs.declared.key.Key.{Key}
 use Rattle.bts_names.proofs.Sameness.{keys_exact}
 use Rattle.bts_region.specs.Awake.{AreAwake, AreOthersAwake}

@@ -110,7 +110,7 @@ module _ {N : Type 0} (name : Named) (r : Inside N) (k : Keeps name r) where
       activations = p.activations;
       sound = subst (λ x. AreSound x.processes) (sym p.repository) k.sound;
       within = subst (λ m. bound_of_units m s.repository.processes ≡ true) (sym p.units) (subst (λ x. bound_of_units r.units x.processes ≡ true) (sym p.repository) k.within);
-      lone = subst (λ x. list_all is_lone x.processes ≡ true) (sym p.repository) k.lone;
+      lone = subst (λ x. list_all is_lone x.processes.items ≡ true) (sym p.repository) k.lone;
       awake = subst AreAwake (sym p.repository) k.awake;
     }
 

@@ -26,7 +26,7 @@ use Rattle.bts_tree.specs.Soundness.{AreSound, bound_of_units}
 -- ---- what is out stays enabled
 
 -- where no process has a timer, a request and an activation are enabled at each moment alike
-pub enabled_later : (session : Session) (count now later : ℕ) (repo : Processes) (ended : List ℕ) (u : UnitKind) → IsNextOut session count (Some u) → list_all is_lone repo ≡ true
+pub enabled_later : (session : Session) (count now later : ℕ) (repo : Processes) (ended : List ℕ) (u : UnitKind) → IsNextOut session count (Some u) → list_all is_lone repo.items ≡ true
     → is_enabled session now repo ended u ≡ true → is_enabled session later repo ended u ≡ true
 enabled_later session count now later repo ended (unit.Request n key) o lone e =
     subst (λ due. list_any (λ x. nat_eq x.0 n && (has_turn session ended x.0 x.1 && (not (is_settle x.1) || (is_empty (untold_in repo) && is_empty due && is_empty (ready_in repo))))) (numbered session) ≡ true)
@@ -65,7 +65,7 @@ module _ {N : Type 0} (name : Named) (r s : Inside N) (k : Keeps name r) (t : Is
       → AllByRecursion (λ v. is_enabled r.session.value s.moment (position_of (state_of name r)).processes (position_of (state_of name r)).ended v ≡ true) (map (λ (z : Out). z.1) (out_of o))
   still_enabled None n e = tt
   still_enabled (Some u) n e = (
-    enabled_later r.session.value r.items_ended r.moment s.moment (position_of (state_of name r)).processes (position_of (state_of name r)).ended u n (subst (λ repo. list_all is_lone repo ≡ true) k.processes k.lone) e.0,
+    enabled_later r.session.value r.items_ended r.moment s.moment (position_of (state_of name r)).processes (position_of (state_of name r)).ended u n (subst (λ repo. list_all is_lone repo.items ≡ true) k.processes k.lone) e.0,
     tt,
   )
 
@@ -93,7 +93,7 @@ module _ {N : Type 0} (name : Named) (r s : Inside N) (k : Keeps name r) (t : Is
     next_out = subst (λ x. IsNextOut x s.items_ended s.out) (sym t.session) (subst (λ n. IsNextOut r.session.value n s.out) (sym t.items) (subst (IsNextOut r.session.value r.items_ended) (sym t.out) k.next_out));
     sound = subst AreSound (sym t.processes) k.sound;
     within = subst (λ n. bound_of_units n s.repository.processes ≡ true) (sym t.units) (subst (λ repo. bound_of_units r.units repo ≡ true) (sym t.processes) k.within);
-    lone = subst (λ repo. list_all is_lone repo ≡ true) (sym t.processes) k.lone;
+    lone = subst (λ repo. list_all is_lone repo.items ≡ true) (sym t.processes) k.lone;
     awake = t.awake k.awake;
     may_open = k.may_open;
     today = subst IsOfToday (sym t.session) k.today;

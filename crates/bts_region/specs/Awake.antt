@@ -1,6 +1,6 @@
 -- What the index of what may run keeps.
 use Rattle.std.specs.Prelude.{◌≡◌, true, false}
-use Rattle.bts_index.specs.Indexes.{is_awake}
+use Rattle.bts_tree.specs.Indexes.{is_awake}
 use Rattle.bts_names.specs.declared.key.Key.{Key}
 use Rattle.bts_tree.specs.Repositories.{Stored, has_room, same_key}
 

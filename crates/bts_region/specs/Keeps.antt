@@ -62,7 +62,7 @@ pub record Keeps {N : Type 0} (name : Named) (r : Inside N) : Type 0 where
   -- the processes can be worked on
   pub sound : AreSound r.repository.processes
   pub within : bound_of_units r.units r.repository.processes ≡ true
-  pub lone : list_all is_lone r.repository.processes ≡ true
+  pub lone : list_all is_lone r.repository.processes.items ≡ true
   pub awake : AreAwake r.repository
   pub today : IsOfToday r.session.value
   pub may_open : MayOpen name.opening

@@ -20,7 +20,7 @@ abbrev pub unexpired_of : Process → List TimerPlace
 unexpired_of s = unexpired_among s.key (activities s)
 
 abbrev pub unexpired_in : Processes → List TimerPlace
-unexpired_in = flat_map unexpired_of
+unexpired_in repo = flat_map unexpired_of repo.items
 
 -- a COMPLETE child that isn't told gets a notice, and a timer that is UNEXPIRED expires
 abbrev pub owed : Processes → ℕ

@@ -4,7 +4,8 @@ use Rattle.std.specs.List.{fold}
 use Rattle.bts_command.specs.declared.ended.Ended.{Ended}
 use Rattle.bts_command.specs.Kinds.{is_committed}
 use Rattle.bts_interp.specs.Items.{item_of}
-use Rattle.bts_tree.specs.Repositories.{Processes}
+use Rattle.bts_container.specs.declared.format.Format.TheVariants as format
+use Rattle.bts_tree.specs.Repositories.{Processes, no_processes}
 use Rattle.bts_tree.specs.declared.opening.Opening.{Opening}
 use Rattle.bts_unit.specs.Playing.{after}
 
@@ -19,9 +20,9 @@ pub record Position : Type 0 where
 abbrev pub opened_at : Opening → Position
 opened_at o = record { processes = o.repo.processes; moment = o.moment; ended = []; units = o.units }
 
--- where it begins with nothing
+-- where it begins with nothing, in the first format
 abbrev pub origin : Position
-origin = record { processes = []; moment = 0; ended = []; units = 0 }
+origin = record { processes = no_processes format.One; moment = 0; ended = []; units = 0 }
 
 abbrev pub with_item : Option ℕ → List ℕ → List ℕ
 with_item None ended = ended

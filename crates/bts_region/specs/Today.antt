@@ -24,7 +24,7 @@ pub record IsOfToday (session : Session) : Type 0 where
 -- those of so few units
 pub record MayOpen (o : Opening) : Type 0 where
   pub sound : AreSound o.repo.processes
-  pub lone : list_all is_lone o.repo.processes ≡ true
+  pub lone : list_all is_lone o.repo.processes.items ≡ true
   pub bound : bound_of_units o.units o.repo.processes ≡ true
   pub few : o.units ≤ 2 ^ 40
 

@@ -3,13 +3,12 @@ ghost use Rattle.std.specs.Prelude.{◌≡◌, ◌<◌, ◌^◌, [], length};
 ghost use Rattle.bts_region.specs.Offered.{activation_or, offer_of, unit_behind};
 ghost use Rattle.bts_region.specs.Regions.{offer};
 ghost use Rattle.bts_tree.specs.Repositories.{ready_in};
-ghost use Rattle.bts_tree.specs.Soundness.{AreSound};
 
 use crate::region::Region;
 use bts_command::UnitKind;
-use bts_index::IndexedRepository;
 use bts_interp::Naming;
 use bts_session::Item;
+use bts_tree::Repository;
 
 /// What is on offer: work, that so many activations have ended as may, or nothing any more.
 #[derive(Clone, Copy, Debug)]
@@ -20,8 +19,9 @@ pub(crate) enum Found {
 }
 
 impl<N: Naming> Region<N> {
-    /// The first work, where nothing is out. An item is found in constant time, and the first activation by the index of
-    /// the processes that have one, in the time of a look-up and of a walk over the activities of its process.
+    /// The first work, where nothing is out. An item is found in constant time, and the first activation by the
+    /// repository's index of the processes that have one, in the time of a look-up and of a walk over the activities of
+    /// its process.
     pub(crate) fn find_work(&self) -> Found
         requires alone { self.now.out ≡ [] }
         ensures { offer_of result ≡ offer self.now }
@@ -60,12 +60,11 @@ fn next_unit(items: &[Item], ended: usize) -> Option<UnitKind>
 }
 
 /// The first activation that is enabled, or that the limit is met, or what comes behind activations.
-fn find_activation(repository: &IndexedRepository, made: u64, limit: u64, behind: Found) -> Found
-    requires sound { AreSound repository.now.processes }
+fn find_activation(repository: &Repository, made: u64, limit: u64, behind: Found) -> Found
     ensures { offer_of result
         ≡ activation_or made limit (ready_in repository.now.processes) (offer_of behind) }
 {
-    let Some((key, path)) = repository.first_ready() else {
+    let Some((key, path)) = repository.next_ready(None) else {
         return behind;
     };
     if made < limit {

@@ -11,11 +11,10 @@ ghost use Rattle.bts_unit.specs.Playing as playing;
 use crate::region::Region;
 use crate::taking::new_job;
 use bts_command::{End, Ended, UnitKind};
-use bts_index::IndexedRepository;
 use bts_interp::{Done, FinishError, Naming, Steps, item_of, run_job};
 use bts_names::{Key, Moment, NoMemory, Rows};
 use bts_session::Session;
-use bts_tree::Scope;
+use bts_tree::{Repository, Scope};
 use std::alloc::Global;
 use std::sync::Arc;
 use std::sync::ledger::Ledger;
@@ -37,7 +36,7 @@ fn is_same(a: &UnitKind, b: &UnitKind) -> bool
 /// Makes room for one unit more, and for the process that it leaves.
 fn reserve_for_one(
     history: &mut Vec<Ended>,
-    repository: &mut IndexedRepository,
+    repository: &mut Repository,
     key: &Key,
 ) -> Result<(), NoMemory>
     ensures history { history.new.items ≡ history.old.items }
@@ -54,7 +53,7 @@ fn reserve_for_one(
 }
 
 /// Whether a result is that of the unit from the process and at the moment that stand now.
-fn fits<N: Naming>(done: &Done<N>, due: &Due, repository: &IndexedRepository) -> bool
+fn fits<N: Naming>(done: &Done<N>, due: &Due, repository: &Repository) -> bool
     ensures { IsTrue result ↔ IsOfDue done.now.job (due_here due.now repository.now.processes) }
 {
     if done.moment() != due.moment {
@@ -67,14 +66,14 @@ fn fits<N: Naming>(done: &Done<N>, due: &Due, repository: &IndexedRepository) ->
     if base.key() != due.key {
         return false;
     }
-    repository.all().same(base)
+    repository.same(base)
 }
 
 /// Runs the unit from the process and at the moment that stand now.
 fn run_again<N: Naming, L: Ledger>(
     alloc: Global,
     due: &Due,
-    repository: &IndexedRepository,
+    repository: &Repository,
     session: &Arc<Session>,
     steps: &mut Steps<L>,
 ) -> Result<Done<N>, NoMemory>
@@ -97,7 +96,7 @@ fn fitting<N: Naming, L: Ledger>(
     alloc: Global,
     done: Done<N>,
     due: &Due,
-    repository: &IndexedRepository,
+    repository: &Repository,
     session: &Arc<Session>,
     steps: &mut Steps<L>,
 ) -> Result<Done<N>, Done<N>>
@@ -129,7 +128,7 @@ fn prepare<N: Naming, L: Ledger>(
     done: Done<N>,
     due: &Due,
     history: &mut Vec<Ended>,
-    repository: &mut IndexedRepository,
+    repository: &mut Repository,
     session: &Arc<Session>,
     steps: &mut Steps<L>,
 ) -> Result<Done<N>, Done<N>>
@@ -164,7 +163,7 @@ fn prepare<N: Naming, L: Ledger>(
 
 /// Puts the process that a unit leaves into the repository, but for a rollback. The index keeps no key for it where it has
 /// no activation to run.
-fn put_back(repository: &mut IndexedRepository, after: Scope, end: &End)
+fn put_back(repository: &mut Repository, after: Scope, end: &End)
     requires { has_room after.process.key repository.old ≡ true }
     ensures processes { repository.new.processes
         ≡ playing.put_back end.now (Some after.process) repository.old.processes }

@@ -10,7 +10,6 @@ ghost use Rattle.bts_region.specs.Regions.{IsKept, kinds_out};
 ghost use Rattle.bts_region.specs.Today.{IsOfToday, IsSmall, MayOpen};
 
 use bts_command::{Ended, History, UnitKind};
-use bts_index::IndexedRepository;
 use bts_interp::{Job, Naming};
 use bts_names::{Moment, NoMemory};
 use bts_session::Session;
@@ -32,7 +31,7 @@ pub struct Region<N: Naming> {
     pub(crate) history: Vec<Ended>,
     /// The unit that is out, under the first ticket.
     pub(crate) out: Option<UnitKind>,
-    pub(crate) repository: IndexedRepository,
+    pub(crate) repository: Repository,
     /// How many units were committed.
     pub(crate) units: u64,
     /// How many items have ended, which are the first ones.
@@ -84,7 +83,8 @@ impl<N: Naming> Region<N> {
             units,
             moment,
         } = opening;
-        let repository = IndexedRepository::of(alloc, repo)?;
+        let mut repository = repo;
+        repository.forget_all_idle();
         Ok(Region {
             alloc,
             session,
@@ -118,7 +118,7 @@ impl<N: Naming> Region<N> {
     pub fn repository(&self) -> &Repository
         ensures { result.now.processes ≡ (behind_all self.now.opening self.now.history).processes }
     {
-        self.repository.all()
+        &self.repository
     }
 
     /// How many units are out.
@@ -201,7 +201,7 @@ impl<N: Naming> Region<N> {
         } = self;
         Closed {
             history: History::from_vec(history),
-            repository: repository.into_repository(),
+            repository,
         }
     }
 }

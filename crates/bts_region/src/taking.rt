@@ -11,10 +11,10 @@ ghost use Rattle.bts_tree.specs.Repositories.{process_at};
 use crate::finding::Found;
 use crate::region::Region;
 use bts_command::{Calls, End, Ended, UnitKind};
-use bts_index::IndexedRepository;
 use bts_interp::{Job, Naming, Refused, Work};
 use bts_names::{Key, Moment, NoMemory, Path, Rows};
 use bts_session::Session;
+use bts_tree::Repository;
 use std::alloc::Global;
 use std::sync::Arc;
 
@@ -24,14 +24,14 @@ pub(crate) fn new_job<N: Naming>(
     unit: &UnitKind,
     key: &Key,
     moment: Moment,
-    repository: &IndexedRepository,
+    repository: &Repository,
     session: &Arc<Session>,
 ) -> Result<Job<N>, NoMemory>
     requires named { session.now.value ≡ N.name.session }
     requires runnable { IsRunnable unit.now (process_at key.now repository.now.processes) (texts_of session.now.value unit.now) }
     ensures { IfOk result (λ j. j ≡ job_of 0 session.now.value unit.now (process_at key.now repository.now.processes) moment) }
 {
-    let base = repository.all().scope(alloc, key, &Path::root())?;
+    let base = repository.scope(alloc, key, &Path::root())?;
     let session = session.clone()?;
     Ok(Job::new(0, *unit, base, moment, session))
 }

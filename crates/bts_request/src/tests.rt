@@ -9,6 +9,7 @@ ghost use Rattle.bts_rows.specs.Families.{resets};
 use crate::request;
 use bts_act::none_is_early;
 use bts_command::{Command, Spot, Target};
+use bts_container::Format;
 use bts_names::{
     Blob, Key, Mode, Moment, Name16, Path, ProcName, ProcType, ProgName, Reason, Reply, Resp,
     Transid, Value,
@@ -19,7 +20,7 @@ use std::alloc::Global;
 use std::collections::BTreeMap;
 use std::test::Fail;
 
-/// The bytes of a container that is too long.
+/// The bytes of a container that is too long in the first format.
 const LONG: usize = 32_769;
 
 /// Where something is done.
@@ -214,7 +215,7 @@ fn put(alloc: Global, at: At, bytes: &[u8]) -> Option<Command>
     })
 }
 
-/// A PUT of one byte more than a container holds.
+/// A PUT of one byte more than a container holds in the first format.
 fn put_long(alloc: Global, at: At) -> Option<Command>
     ensures given { IfSome result (λ c. IsGiven c) }
     ensures today { IfSome result (λ c. resets c ≡ false) }
@@ -422,17 +423,22 @@ fn goes(alloc: Global, scope: &mut Scope, held: &mut Held, step: Step, want: Wan
     }
 }
 
-pub(crate) fn undefined(alloc: Global) -> Option<Scope> {
+pub(crate) fn undefined(alloc: Global, format: Format) -> Option<Scope> {
     let key = Key {
         ptype: ProcType::read(b"ORDERS".as_slice()).ok()?,
         pname: ProcName::read(b"P7".as_slice()).ok()?,
     };
-    Some(Scope::undefined(alloc, key))
+    Some(Scope::undefined(alloc, format, key))
 }
 
 /// The place of the first step of a play that isn't answered as wanted, where the key was never defined.
 fn first_wrong(alloc: Global, play: &[(Step, Want)]) -> Option<usize> {
-    let Some(mut scope) = undefined(alloc) else {
+    first_wrong_in(alloc, Format::One, play)
+}
+
+/// The same for a process of this format.
+fn first_wrong_in(alloc: Global, format: Format, play: &[(Step, Want)]) -> Option<usize> {
+    let Some(mut scope) = undefined(alloc, format) else {
         return Some(0);
     };
     let mut held = Held::Never;
@@ -541,6 +547,26 @@ fn containers_stand_with_what_is_acquired(rt: HostRuntime) -> Result<(), Fail> {
         ),
     ];
     assert_eq!(rt; first_wrong(alloc, &play), None);
+    Ok(())
+}
+
+#[test]
+fn the_second_format_takes_longer_containers(rt: HostRuntime) -> Result<(), Fail> {
+    let alloc = rt.alloc();
+    let play = [
+        (Step::Define, Want::Normal),
+        (Step::PutLong(At::Root), Want::Normal),
+        (Step::Again, Want::Normal),
+        (Step::AcquireRoot, Want::Normal),
+        (Step::PutLong(At::Acquired), Want::Normal),
+        (Step::Again, Want::Normal),
+        (Step::Acquire, Want::Normal),
+        (Step::Purge, Want::Normal),
+        (Step::Again, Want::Normal),
+        (Step::Define, Want::Normal),
+        (Step::PutLong(At::Root), Want::Normal),
+    ];
+    assert_eq!(rt; first_wrong_in(alloc, Format::Two, &play), None);
     Ok(())
 }
 

@@ -9,6 +9,7 @@ use crate::request;
 use crate::tests::{Step, command_of, is_free, named, numbered, undefined};
 use bts_act::{none_is_early, perform};
 use bts_command::{Command, Due, Names, Spot, Target};
+use bts_container::Format;
 use bts_names::{Blob, Moment, Name16, NoMemory, Path, ProgName, Reply, Resp, Transid};
 use bts_rows::{Held, Here};
 use bts_tree::{Activity, Repository, Scope};
@@ -286,7 +287,7 @@ fn gains_child(alloc: Global, scope: &mut Scope, number: u32, name: Name16) -> O
     if scope.activity(&path).is_none() {
         let transid = Transid::read(b"ORD1".as_slice()).ok()?;
         let program = ProgName::read(b"ANY".as_slice()).ok()?;
-        let child = Activity::new(alloc, name, transid, program, Some(name));
+        let child = Activity::new(alloc, scope.format(), name, transid, program, Some(name));
         scope.add(&path, child).ok()?;
     }
     Some(true)
@@ -380,7 +381,7 @@ fn goes_back(scope: &mut Scope, mark: u64) -> bool {
 #[test]
 fn what_commands_did_goes_back(rt: HostRuntime) -> Result<(), Fail> {
     let alloc = rt.alloc();
-    let mut scope = undefined(alloc).ok_or(NoMemory)?;
+    let mut scope = undefined(alloc, Format::One).ok_or(NoMemory)?;
     let never = Repository::empty(alloc);
     let mut held = Held::Never;
     assert!(rt; marks(&mut scope));

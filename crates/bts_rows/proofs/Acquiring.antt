@@ -7,12 +7,11 @@ use Rattle.bts_names.specs.declared.reply.Value.{Value}
 use Rattle.bts_command.specs.Sizes.{got_bytes}
 use Rattle.bts_command.specs.declared.command.Command.{Command}
 use Rattle.bts_command.specs.declared.command.Command.TheVariants as command
-use Rattle.bts_container.specs.Containers.{IsPool}
 use Rattle.bts_tree.specs.declared.activity.Activity.{Activity}
 use Rattle.bts_tree.specs.Activities.{is_at_rest, new_root}
-use Rattle.bts_tree.specs.Processes.{Process, activity_at, has_tree, planted, purged}
+use Rattle.bts_tree.specs.Processes.{Process, activity_at, has_tree, planted, purged, format_of}
 use Rattle.bts_tree.specs.Soundness.{IsSoundInFrames}
-use Rattle.bts_tree.proofs.New.{new_process_is_sound}
+use Rattle.bts_tree.proofs.New.{new_process_is_sound, nothing_kept}
 use Rattle.bts_rows.specs.declared.places.Held.{Held}
 use Rattle.bts_rows.specs.declared.places.Held.TheVariants as holds
 use Rattle.bts_rows.specs.Bounds.{raised_by}
@@ -23,7 +22,7 @@ use Rattle.bts_rows.proofs.Telling.{Tells, TellsWith, tells_more, tells_some, te
 
 -- a process and what is held have a property behind each of these commands
 pub record Acquires (P : Process × Held → Type 0) (h : Held) (s : Process) : Type 0 where
-  pub planted : (transid program : Name) → has_acquired h ≡ false → P (planted (new_root transid program) s, holds.Process)
+  pub planted : (transid program : Name) → has_acquired h ≡ false → P (planted (new_root (format_of s) transid program) s, holds.Process)
   pub acquired : (g : Held) → has_acquired h ≡ false → P (s, g)
   pub purged : P (purged s, holds.Purged)
 
@@ -71,19 +70,16 @@ module _ (P : Process × Held → Type 0) (h : Held) (s : Process) (l : Acquires
 
 -- ---- soundness
 
-no_containers : IsPool []
-no_containers = (new_process_is_sound (record { ptype = []; pname = [] }) [] []).containers
-
 one_more : (n : ℕ) → 1 ≤ n + 1
 one_more n = omega arith
 
 pub acquires_sound : (h : Held) (s : Process) → IsSoundInFrames [] s → Acquires (λ x. IsSoundInFrames [] x.0) h s
 acquires_sound h s sound = record {
   planted = λ transid program a.
-      let new = new_process_is_sound s.key transid program in
-      record { tree = (new.tree.0, one_more s.generation); containers = sound.containers; active = new.active };
+      let new = new_process_is_sound (format_of s) s.key transid program in
+      record { tree = (new.tree.0, one_more s.generation); containers = sound.containers; formats = new.formats; active = new.active };
   acquired = λ g a. sound;
-  purged = record { tree = refl; containers = no_containers; active = refl };
+  purged = record { tree = refl; containers = nothing_kept (format_of s); formats = tt; active = refl };
 }
 
 -- ---- numbers
@@ -142,9 +138,9 @@ acquires_usual h s usual = record {
 }
   where
     planted_usual : (transid program : Name) (p : ActivityPath) (b : Activity) (n : Name)
-        → activity_at p (planted (new_root transid program) s) ≡ Some b → b.completion ≡ Some n → same n initial_name ≡ false
+        → activity_at p (planted (new_root (format_of s) transid program) s) ≡ Some b → b.completion ≡ Some n → same n initial_name ≡ false
     planted_usual transid program p b n e i = by (same p []) e
       where
-        by : (t : Bool) → cond t (Some (new_root transid program)) None ≡ Some b → same n initial_name ≡ false
-        by true e = let q : new_root transid program ≡ b = cc in cc
+        by : (t : Bool) → cond t (Some (new_root (format_of s) transid program)) None ≡ Some b → same n initial_name ≡ false
+        by true e = let q : new_root (format_of s) transid program ≡ b = cc in cc
         by false e = cc

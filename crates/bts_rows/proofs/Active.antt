@@ -12,10 +12,11 @@ use Rattle.bts_names.specs.Named.{lookup}
 use Rattle.bts_tree.specs.declared.activity.Activity.{Activity}
 use Rattle.bts_tree.specs.Activities.{Activities}
 use Rattle.bts_tree.specs.Modes.{is_mode_active}
-use Rattle.bts_tree.specs.Processes.{Process, activity_at}
+use Rattle.bts_tree.specs.Processes.{Process, activity_at, format_of}
 use Rattle.bts_tree.specs.Soundness.{IsSoundInFrames, IsSoundTree, IsSoundUnder}
 use Rattle.bts_rows.proofs.Entries.{behind_first, both_so, right_so}
 use Rattle.bts_rows.proofs.Order.{IsInOrder, path_cmp}
+use Rattle.bts_rows.proofs.OneFormat.{AreIn}
 
 abbrev pub is_active : Option Activity → Bool
 is_active None = false
@@ -117,10 +118,11 @@ runs_at frames p s sound h = runs_case p s (activity_at p s) refl (active_at fra
 
 -- a process with a sound tree, of which exactly the activities of these frames are ACTIVE
 pub sound_in_frames : (frames : List ActivityPath) (s : Process) (t : Activities) → s.tree ≡ Some t → IsSoundTree t → 1 ≤ s.generation → IsPool s.containers
-    → ((p : ActivityPath) → is_active (lookup p t) ≡ list_any (same p) frames) → IsSoundInFrames frames s
-sound_in_frames frames s t e tree defined containers read = record {
+    → AreIn (format_of s) t → ((p : ActivityPath) → is_active (lookup p t) ≡ list_any (same p) frames) → IsSoundInFrames frames s
+sound_in_frames frames s t e tree defined containers formats read = record {
   tree = subst (IsSoundUnder s) (sym e) (tree, defined);
   containers = containers;
+  formats = subst (λ o. AreIn (format_of s) (unwrap_or o [])) (sym e) formats;
   active = subst (λ o. IsTrue (list_all (λ p. list_any (same p) frames) (active_of (unwrap_or o [])) && list_all (λ p. list_any (same p) (active_of (unwrap_or o []))) frames)) (sym e)
       (active_read frames t tree.paths_rise read);
 }

@@ -16,6 +16,7 @@ use Rattle.bts_rows.specs.Rows.{act_at, request_in}
 use Rattle.bts_rows.proofs.Entries.{both_so}
 use Rattle.bts_rows.proofs.Grows.{all_wider, grows_by_cause, grows_complete, grows_same, grows_within, numbers_within}
 use Rattle.bts_rows.proofs.Tables.{act_at_grows, request_in_grows}
+use Rattle.bts_container.specs.declared.format.Format.{Format}
 
 -- ---- what they say
 
@@ -35,11 +36,11 @@ within_more g n h m s w l k = grows_within 0 0 false s s (grows_same 0 false s) 
 
 -- ---- a process that was never defined
 
-pub within_none : (g n : ℕ) (key : Key) → is_within g n (no_process key) ≡ true
-within_none g n key = both_so _ _ (le-leb 0 g (omega arith)) refl
+pub within_none : (g n : ℕ) (f : Format) (key : Key) → is_within g n (no_process f key) ≡ true
+within_none g n f key = both_so _ _ (le-leb 0 g (omega arith)) refl
 
-pub lone_none : (key : Key) → is_lone (no_process key) ≡ true
-lone_none key = refl
+pub lone_none : (f : Format) (key : Key) → is_lone (no_process f key) ≡ true
+lone_none f key = refl
 
 -- ---- where a frame opens or ends
 

@@ -121,6 +121,7 @@ pub record Replaces (t : Activities) (keeps : ActivityPath → Bool) (p : Activi
   pub name : b.name ≡ a.name
   pub completion : b.completion ≡ a.completion
   pub made : b.made ≡ a.made
+  pub format : b.containers.format ≡ a.containers.format
   pub told : is_root p ≡ true → a.told ≡ true → b.told ≡ true
   pub own : (q : ActivityPath) (k : ℕ) (x : Activity) → p ≡ below q k → lookup q t ≡ Some x → needs_event b ≡ true → Waits x k b
   pub waits : (k : ℕ) (c : Activity) → keeps (below p k) ≡ true → lookup (below p k) t ≡ Some c → needs_event c ≡ true → Waits b k c

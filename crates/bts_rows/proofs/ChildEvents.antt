@@ -131,6 +131,7 @@ module _ (t : Activities) (f : IsFamily t) (p : ActivityPath) (a : Activity) (fo
       name = refl;
       completion = refl;
       made = refl;
+      format = refl;
       told = λ r h. h;
       own = own_as_before t f p a changed found refl (λ n. n);
       waits = λ j c l h n. waits_case j c (nat_eq j k) refl l h n;
@@ -378,6 +379,7 @@ told_replaces t f p a found = record {
   name = refl;
   completion = refl;
   made = refl;
+  format = refl;
   told = λ r h. refl;
   own = let b : Activity = record a { told = true } in own_as_before t f p a b found refl (told_needs (is_complete a) a.told);
   waits =

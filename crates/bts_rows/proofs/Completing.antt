@@ -14,7 +14,7 @@ use Rattle.bts_tree.specs.declared.activity.Activity.{Activity}
 use Rattle.bts_tree.specs.Activities.{Activities, completed, completed_at, completed_one, forced, is_complete}
 use Rattle.bts_tree.specs.Modes.{is_mode_active}
 use Rattle.bts_tree.specs.Paths.{leads_to}
-use Rattle.bts_tree.specs.Processes.{Process, activity_at, complete}
+use Rattle.bts_tree.specs.Processes.{Process, activity_at, complete, format_of}
 use Rattle.bts_tree.specs.Soundness.{IsSoundActivity, IsSoundInFrames, is_abend, is_incomplete, is_root, needs_event}
 use Rattle.bts_rows.proofs.Active.{active_at, is_active, runs_at, sound_in_frames}
 use Rattle.bts_rows.proofs.Changes.{Was, family_left, old_waits, only, waits_named}
@@ -25,6 +25,7 @@ use Rattle.bts_rows.proofs.Trees.{HasChild, IsFamily, Waits, tree_from}
 use Rattle.bts_rows.proofs.Local.{completes_none}
 use Rattle.bts_rows.proofs.Order.{leads_own, path_cmp}
 use Rattle.bts_rows.proofs.Turned.{active_goes_on}
+use Rattle.bts_rows.proofs.OneFormat.{in_mapped}
 
 -- ---- a change of every activity under its path
 
@@ -106,6 +107,15 @@ module _ (p : ActivityPath) (s : Status) (code : Option Name) where
   made_case false true true a = refl
   made_case false true false a = refl
   made_case false false d a = refl
+
+  format_case : (b c d : Bool) (a : Activity) → (one_of b c d a).containers.format ≡ a.containers.format
+  format_case true c d a = refl
+  format_case false true true a = refl
+  format_case false true false a = refl
+  format_case false false d a = refl
+
+  pub same_format : (x : ActivityPath × Activity) → (by x).containers.format ≡ x.1.containers.format
+  same_format x = format_case (same p x.0) (leads_to p x.0) (is_complete x.1) x.1
 
   same_name : (x : ActivityPath × Activity) → (by x).name ≡ x.1.name
   same_name x = name_case (same p x.0) (leads_to p x.0) (is_complete x.1) x.1
@@ -259,6 +269,7 @@ complete_closes frames others p s code whole a ends coded inside apart sound the
     sound_in_frames others (complete p s code whole) (completed_at p s code at.tree) (ap (option_map (completed_at p s code)) at.is_tree)
     (tree_from (completed_at p s code at.tree) (family_completed p s code ends coded at.tree at.family a at.found running))
     at.defined sound.containers
+    (in_mapped (format_of whole) (completed_one p s code) (same_format p s code) at.tree at.formats)
     (still_active p s code at.tree frames others
     (λ q. ap (λ o. is_active (lookup q (unwrap_or o []))) (sym at.is_tree) ∙ active_at frames whole sound q) inside apart)
 

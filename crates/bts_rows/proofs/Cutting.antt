@@ -6,13 +6,15 @@ use Rattle.bts_names.specs.Named.{lookup}
 use Rattle.bts_tree.specs.declared.activity.Activity.{Activity}
 use Rattle.bts_tree.specs.Activities.{Activities, changed_at, changed_by, written_at}
 use Rattle.bts_tree.specs.Modes.{is_mode_active}
-use Rattle.bts_tree.specs.Processes.{Process, activity_at, edited, on_tree}
+use Rattle.bts_tree.specs.Processes.{Process, activity_at, edited, on_tree, format_of}
 use Rattle.bts_tree.specs.Soundness.{IsSoundInFrames, IsSoundUnder}
 use Rattle.bts_rows.proofs.Active.{active_at, is_active, sound_in_frames}
 use Rattle.bts_rows.proofs.Edits.{missing}
-use Rattle.bts_rows.proofs.Written.{lookup-written}
+use Rattle.bts_rows.proofs.Written.{lookup-written, all_found}
 use Rattle.bts_rows.proofs.Changes.{Cuts, Replaces, all, all_cuts, all_left, all_stay, family_replaced}
 use Rattle.bts_rows.proofs.Trees.{IsFamily, family_from, found_passing, tree_from}
+use Rattle.bts_rows.proofs.OneFormat.{AreIn, in_written}
+use Rattle.bts_rows.proofs.Entries.{all_filtered}
 
 -- the tree of a sound process in which an activity stands
 pub record StandsAt (s : Process) (p : ActivityPath) (a : Activity) : Type 0 where
@@ -21,14 +23,24 @@ pub record StandsAt (s : Process) (p : ActivityPath) (a : Activity) : Type 0 whe
   pub found : lookup p tree ≡ Some a
   pub family : IsFamily tree
   pub defined : 1 ≤ s.generation
+  pub formats : AreIn (format_of s) tree
+  pub format : a.containers.format ≡ format_of s
 
 pub stands_at : (frames : List ActivityPath) (s : Process) (p : ActivityPath) (a : Activity) → IsSoundInFrames frames s
     → activity_at p s ≡ Some a → StandsAt s p a
-stands_at frames s p a sound h = by s.tree refl sound.tree h
+stands_at frames s p a sound h = by s.tree refl sound.tree sound.formats h
   where
-    by : (o : Option Activities) → s.tree ≡ o → IsSoundUnder s o → lookup p (unwrap_or o []) ≡ Some a → StandsAt s p a
-    by None e u k = cc
-    by (Some t) e u k = record { tree = t; is_tree = e; found = k; family = family_from t u.0; defined = u.1 }
+    by : (o : Option Activities) → s.tree ≡ o → IsSoundUnder s o → AreIn (format_of s) (unwrap_or o []) → lookup p (unwrap_or o []) ≡ Some a → StandsAt s p a
+    by None e u f k = cc
+    by (Some t) e u f k = record {
+      tree = t;
+      is_tree = e;
+      found = k;
+      family = family_from t u.0;
+      defined = u.1;
+      formats = f;
+      format = all_found (λ x. x.1.containers.format ≡ format_of s) p a t f k;
+    }
 
 -- ---- the change
 
@@ -63,6 +75,9 @@ module _ (keeps : ActivityPath → Bool) (p : ActivityPath) (g : Activity → Ac
           (tree_from (cut w.tree)
           (subst IsFamily (sym (cut_writes w.tree w.found)) (family_replaced w.tree w.family keeps p cuts a (g a) w.found r)))
           w.defined sound.containers
+          (subst (AreIn (format_of s)) (sym (cut_writes w.tree w.found))
+          (in_written (format_of s) p (g a) (r.format ∙ w.format) (filter (λ x. keeps x.0) w.tree)
+          (all_filtered (λ x. x.1.containers.format ≡ format_of s) (λ x. keeps x.0) w.tree w.formats)))
           (λ q. ap is_active (read_cut w.tree w.found q)
           ∙ active_case w.tree w.found (λ z. ap (λ o. is_active (lookup z (unwrap_or o []))) (sym w.is_tree) ∙ active_at frames s sound z) q
           (same p q) (keeps q) refl refl)

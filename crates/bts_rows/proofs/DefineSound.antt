@@ -5,7 +5,6 @@ use Rattle.std.specs.List.Sorted.{IsStrictlySortedBy}
 use Rattle.std.proofs.lemmas.Bool.{and_parts, leb-false, leb-true, le-leb}
 use Rattle.bts_names.specs.Names.{Name, ActivityPath, same, same_exact, initial_name, root_name}
 use Rattle.bts_names.specs.Named.{in_order, lookup, is_there}
-use Rattle.bts_container.specs.Containers.{IsPool}
 use Rattle.bts_event.specs.declared.event.Event.{Event}
 use Rattle.bts_event.specs.declared.event.Trigger.TheVariants.{Completion}
 use Rattle.bts_event.specs.Events.{is_fired_atomic, new_atomic}
@@ -13,12 +12,12 @@ use Rattle.bts_event.specs.Pool.{defined, empty_pool}
 use Rattle.bts_event.specs.Refusals.{define_refusal}
 use Rattle.bts_event.proofs.Accounts.{clear_sound}
 use Rattle.bts_event.proofs.Same.{same_refl, same_sym}
-use Rattle.bts_tree.proofs.New.{new_process_is_sound}
+use Rattle.bts_tree.proofs.New.{nothing_kept}
 use Rattle.bts_tree.proofs.Paths.{parent_of_child}
 use Rattle.bts_tree.specs.declared.activity.Activity.{Activity}
 use Rattle.bts_tree.specs.Activities.{Activities, changed_at, changed_by, child_in, child_limit, new_activity, path_limit, written_at}
 use Rattle.bts_tree.specs.Paths.{is_child_of, number_of, parent_of}
-use Rattle.bts_tree.specs.Processes.{Process, activity_at, added, child_of, edited, on_tree}
+use Rattle.bts_tree.specs.Processes.{Process, activity_at, added, child_of, edited, on_tree, format_of}
 use Rattle.bts_tree.specs.Soundness.{IsSoundActivity, IsSoundInFrames, is_root}
 use Rattle.bts_rows.specs.Completions.{with_child}
 use Rattle.bts_rows.proofs.Active.{active_at, is_active, sound_in_frames}
@@ -36,6 +35,8 @@ use Rattle.bts_rows.proofs.ChildEvents.{but, but_timers, own_unpicked, pool_soun
 use Rattle.bts_rows.proofs.Cutting.{stands_at}
 use Rattle.bts_rows.proofs.Paths.{below, child_below, not_own, not_root, number_below, one_number}
 use Rattle.bts_rows.proofs.Trees.{HasChild, HasParent, IsChild, IsFamily, IsFirst, Waits, tree_from}
+use Rattle.bts_rows.proofs.OneFormat.{AreIn, in_added, in_written}
+use Rattle.bts_container.specs.declared.format.Format.{Format}
 
 -- no child has a name that isn't found
 find_none : (f : ActivityPath × Activity → Bool) (t : Activities) (q : ActivityPath) (a : Activity) → find f t ≡ None → lookup q t ≡ Some a
@@ -54,22 +55,19 @@ one_below l m h = let d = leb-false l m h in omega (arith, d)
 
 -- ---- the new child
 
-no_containers : IsPool []
-no_containers = (new_process_is_sound (record { ptype = []; pname = [] }) [] []).containers
-
-new_sound : (name transid program : Name) (completion : Option Name) → IsSoundActivity (new_activity name transid program completion)
+new_sound : (m : Format) (name transid program : Name) (completion : Option Name) → IsSoundActivity (new_activity m name transid program completion)
 unfolding IsStrictlySortedBy
-new_sound name transid program completion = record {
+new_sound m name transid program completion = record {
   status = refl;
   code = refl;
   pool = clear_sound empty_pool;
   timers_rise = tt;
   timer_events = record { one_event_each = refl; timer_of_each = refl; unexpired = refl };
-  containers = no_containers;
+  containers = nothing_kept m;
   few_children = omega arith;
 }
 
-module _ (t : Activities) (f : IsFamily t) (p : ActivityPath) (a : Activity) (found : lookup p t ≡ Some a) (name transid program e : Name)
+module _ (t : Activities) (f : IsFamily t) (p : ActivityPath) (a : Activity) (found : lookup p t ≡ Some a) (m : Format) (name transid program e : Name)
     (taken : (j : ℕ) (x : Activity) → lookup (below p j) t ≡ Some x → same name x.name ≡ false)
     (free : define_refusal e a.pool.events ≡ None)
     (usual : same e initial_name ≡ false) (named : same name root_name ≡ false) (shallow : nat_le path_limit (length p) ≡ false)
@@ -81,7 +79,7 @@ module _ (t : Activities) (f : IsFamily t) (p : ActivityPath) (a : Activity) (fo
   child = below p n
 
   abbrev new : Activity
-  new = new_activity name transid program (Some e)
+  new = new_activity m name transid program (Some e)
 
   abbrev parent : Activity
   parent = with_child e n a
@@ -194,7 +192,7 @@ module _ (t : Activities) (f : IsFamily t) (p : ActivityPath) (a : Activity) (fo
   -- ---- the tree
 
   sound_at : (q : ActivityPath) (x : Activity) → In q x → IsSoundActivity x
-  sound_at q x (fresh d i) = subst IsSoundActivity i (new_sound name transid program (Some e))
+  sound_at q x (fresh d i) = subst IsSoundActivity i (new_sound m name transid program (Some e))
   sound_at q x (own d i) = subst IsSoundActivity i parent_sound
   sound_at q x (old d h) = f.sound q x h
 
@@ -365,11 +363,11 @@ pub defined_sound : (frames : List ActivityPath) (s : Process) (p : ActivityPath
     → IsSoundInFrames frames s → activity_at p s ≡ Some a
     → child_of p name s ≡ None → define_refusal e a.pool.events ≡ None → same e initial_name ≡ false → same name root_name ≡ false
     → nat_le path_limit (length p) ≡ false → nat_le child_limit a.made ≡ false
-    → IsSoundInFrames frames (added (below p (a.made + 1)) (new_activity name transid program (Some e)) (edited p (with_child e (a.made + 1)) s))
+    → IsSoundInFrames frames (added (below p (a.made + 1)) (new_activity (format_of s) name transid program (Some e)) (edited p (with_child e (a.made + 1)) s))
 defined_sound frames s p a name transid program e sound there taken free usual named shallow few =
     let w = stands_at frames s p a sound there in
     let c = below p (a.made + 1) in
-    let new = new_activity name transid program (Some e) in
+    let new = new_activity (format_of s) name transid program (Some e) in
     let change : Activities → Activities = λ t. in_order c new (changed_at p (with_child e (a.made + 1)) t) in
     let no_child : (j : ℕ) (x : Activity) → lookup (below p j) w.tree ≡ Some x → same name x.name ≡ false =
     λ j x h.
@@ -381,9 +379,12 @@ defined_sound frames s p a name transid program e sound there taken free usual n
     subst (IsSoundInFrames frames) (sym (on_tree_twice (in_order c new) (changed_at p (with_child e (a.made + 1))) s))
     (sound_in_frames frames (on_tree change s) (change w.tree) (ap (option_map change) w.is_tree)
     (tree_from (change w.tree)
-    (subst IsFamily (sym writes) (family_defined w.tree w.family p a w.found name transid program e no_child free usual named shallow few)))
+    (subst IsFamily (sym writes) (family_defined w.tree w.family p a w.found (format_of s) name transid program e no_child free usual named shallow few)))
     w.defined sound.containers
-    (λ q. ap (λ t. is_active (lookup q t)) writes ∙ still_active w.tree w.family p a w.found name transid program e no_child free usual named shallow few q
+    (subst (AreIn (format_of s)) (sym writes)
+    (in_added (format_of s) c new refl (written_at p (with_child e (a.made + 1) a) w.tree)
+    (in_written (format_of s) p (with_child e (a.made + 1) a) w.format w.tree w.formats)))
+    (λ q. ap (λ t. is_active (lookup q t)) writes ∙ still_active w.tree w.family p a w.found (format_of s) name transid program e no_child free usual named shallow few q
     ∙ ap (λ o. is_active (lookup q (unwrap_or o []))) (sym w.is_tree) ∙ active_at frames s sound q))
   where
     rw_and : (x y : Bool) → x ≡ true → (x && y) ≡ false → y ≡ false

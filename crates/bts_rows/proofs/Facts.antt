@@ -51,9 +51,9 @@ use Rattle.bts_rows.proofs.Telling.{TellsWith, tells_for, tells_mapped, tells_mo
 
 -- ---- what is kept
 
--- containers stay a pool
+-- containers stay a pool, and in their format
 abbrev pub KeepsPool : Containers → Containers → Type 0
-KeepsPool x y = IsPool x → IsPool y
+KeepsPool x y = (IsPool x → IsPool y) × (y.format ≡ x.format)
 
 -- an activity that a command changed fits in its place, and grows by no more than the command makes
 pub record Follows (c : Command) (a b : Activity) : Type 0 where
@@ -80,19 +80,19 @@ GivesActivity c a v b = IsShort a.containers v × KeepsActivity c a b
 
 tells_put : (c : Name) (bytes : Bytes) (x : Containers) → TellsWith (GivesPool x) (containers.put c bytes x)
 tells_put c bytes x =
-    tells_when _ resp.Lengerr reason.Long (is_long bytes) _ refl refl λ l.
+    tells_when _ resp.Lengerr reason.Long (is_long bytes x.format) _ refl refl λ l.
     tells_when _ resp.Containererr reason.Limit (has_no_room c x) _ refl refl λ r.
-    (λ m short. no_bytes m, λ p. pool_put c bytes x p l r)
+    (λ m short. no_bytes m, (λ p. pool_put c bytes x p l r, refl))
 
 tells_get : (c : Name) (x : Containers) → TellsWith (GivesPool x) (containers.get c x)
 tells_get c x =
-    tells_some _ resp.Containererr reason.Missing (lookup c x) _ refl refl λ bytes e.
-    (λ m short. found (λ (b : Bytes). length b ≤ m) c bytes x short e, λ p. p)
+    tells_some _ resp.Containererr reason.Missing (lookup c x.items) _ refl refl λ bytes e.
+    (λ m short. found (λ (b : Bytes). length b ≤ m) c bytes x.items short e, (λ p. p, refl))
 
 tells_delete : (c : Name) (x : Containers) → TellsWith (GivesPool x) (containers.delete c x)
 tells_delete c x =
-    tells_when _ resp.Containererr reason.Missing (not (is_there c x)) _ refl refl λ m.
-    (λ m short. no_bytes m, λ p. pool_delete c x p)
+    tells_when _ resp.Containererr reason.Missing (not (is_there c x.items)) _ refl refl λ m.
+    (λ m short. no_bytes m, (λ p. pool_delete c x p, refl))
 
 pub shown_tells : (c : Command) (x : Containers) → TellsWith (GivesPool x) (on_shown c x)
 unfolding on_shown
@@ -120,7 +120,7 @@ module _ (c : Command) (a : Activity) where
         k.0,
         λ s.
             let b : Activity = record a { containers = x } in
-            record { fits = λ g. fits_containers a s x (k.1 s.containers); grows = grows_in_same 1 (makes_more c) a b refl refl },
+            record { fits = λ g. fits_containers a s x (k.1.0 s.containers) k.1.1; grows = grows_in_same 1 (makes_more c) a b refl refl },
       )) t)
 
   -- ---- events

@@ -17,7 +17,7 @@ use Rattle.bts_tree.specs.declared.activity.Activity.{Activity}
 use Rattle.bts_tree.specs.Activities.{Activities, ended_by, is_complete, new_activity, stays_without, without_below}
 use Rattle.bts_tree.specs.Modes.{is_reset}
 use Rattle.bts_tree.specs.Paths.{number_of, parent_of}
-use Rattle.bts_tree.specs.Processes.{Process, activity_at, added, edited, on_tree, purged, removed, with_pool}
+use Rattle.bts_tree.specs.Processes.{Process, activity_at, added, edited, on_tree, purged, removed, with_pool, format_of}
 use Rattle.bts_tree.specs.Soundness.{IsSoundInFrames}
 use Rattle.bts_rows.specs.Timing.{removed_if}
 use Rattle.bts_rows.specs.Bounds.{is_bare_root, makes_more}
@@ -32,6 +32,7 @@ use Rattle.bts_rows.proofs.ResetSound.{allowed}
 use Rattle.bts_rows.proofs.FamilyRows.{family_tells}
 use Rattle.bts_rows.proofs.Telling.{Tells}
 use Rattle.bts_rows.proofs.Trees.{found_passing, passes_found}
+use Rattle.bts_container.specs.declared.format.Format.{Format}
 
 -- ---- one change behind another
 
@@ -107,9 +108,9 @@ all_added test c new (x ∷ t) f h =
     by Equal k l i = both_so _ _ (f x.0) l
     by Greater k l i = both_so _ _ k i
 
-pub grows_added : (c : ActivityPath) (name transid program : Name) (completion : Option Name) (s : Process)
-    → Grows 0 0 true s (added c (new_activity name transid program completion) s)
-grows_added c name transid program completion s = record {
+pub grows_added : (c : ActivityPath) (f : Format) (name transid program : Name) (completion : Option Name) (s : Process)
+    → Grows 0 0 true s (added c (new_activity f name transid program completion) s)
+grows_added c f name transid program completion s = record {
   key = refl;
   generation = omega arith;
   numbers = λ n m l h. by m s.tree ((grows_same 0 true s).numbers n m l h);
@@ -117,10 +118,10 @@ grows_added c name transid program completion s = record {
 }
   where
     by : (m : ℕ) (o : Option Activities) → list_all (λ x. nat_le x.1.pool.last m) (unwrap_or o []) ≡ true
-        → list_all (λ x. nat_le x.1.pool.last m) (unwrap_or (option_map (in_order c (new_activity name transid program completion)) o) []) ≡ true
+        → list_all (λ x. nat_le x.1.pool.last m) (unwrap_or (option_map (in_order c (new_activity f name transid program completion)) o) []) ≡ true
     by m None h = h
     by m (Some t) h =
-        all_added (λ x. nat_le x.1.pool.last m) c (new_activity name transid program completion) t (λ q. le-leb 0 m (omega arith)) h
+        all_added (λ x. nat_le x.1.pool.last m) c (new_activity f name transid program completion) t (λ q. le-leb 0 m (omega arith)) h
 
 -- ---- pools
 
@@ -198,13 +199,13 @@ module _ (frames : List ActivityPath) (more : Bool) (s : Process) (sound : IsSou
 module _ (frames : List ActivityPath) (s : Process) (sound : IsSoundInFrames frames s) (p : ActivityPath) (a : Activity)
     (there : activity_at p s ≡ Some a) where
   defined_grows : (name : Name) (e transid program : Name) → define_refusal e a.pool.events ≡ None
-      → Grows 0 1 true s (added (p ++ (a.made + 1) ∷ []) (new_activity name transid program (Some e)) (edited p (with_child e (a.made + 1)) s))
+      → Grows 0 1 true s (added (p ++ (a.made + 1) ∷ []) (new_activity (format_of s) name transid program (Some e)) (edited p (with_child e (a.made + 1)) s))
   defined_grows name e transid program free =
       let f : Activity → Activity = with_child e (a.made + 1) in
-      grows_both 1 0 true s (edited p f s) (added (p ++ (a.made + 1) ∷ []) (new_activity name transid program (Some e)) (edited p f s))
+      grows_both 1 0 true s (edited p f s) (added (p ++ (a.made + 1) ∷ []) (new_activity (format_of s) name transid program (Some e)) (edited p f s))
       (grows_at 1 true p f s a there
       (record { last = next_defined e (Completion (a.made + 1)) a.pool (own_sound frames s sound p a there).pool free; timers = λ m i. i }))
-      (grows_added (p ++ (a.made + 1) ∷ []) name transid program (Some e) (edited p f s))
+      (grows_added (p ++ (a.made + 1) ∷ []) (format_of s) name transid program (Some e) (edited p f s))
 
   -- each row on a family
   pub family_grows : (c : Command) → Tells (λ change. Grows 0 1 (makes_more c) s (change s)) (on_family c p a s)

@@ -10,7 +10,7 @@ use Rattle.bts_names.specs.declared.state.Status.TheVariants as status
 use Rattle.bts_tree.specs.Activities.{ended_by, is_complete, new_activity}
 use Rattle.bts_tree.specs.Modes.{is_reset}
 use Rattle.bts_tree.specs.Paths.{is_child_of, leads_to, number_of, parent_of}
-use Rattle.bts_tree.specs.Processes.{Process, added, edited, removed, with_pool}
+use Rattle.bts_tree.specs.Processes.{Process, added, edited, removed, with_pool, format_of}
 use Rattle.bts_rows.proofs.Paths.{child_is, child_leads, leads_append, parent_is}
 use Rattle.bts_rows.proofs.Local.{IsLocal, local_added, local_both, local_complete, local_edited, local_none, local_removed}
 use Rattle.bts_rows.proofs.Order.{leads_on, leads_own}
@@ -61,7 +61,7 @@ module _ (q : ActivityPath) (a : Activity) (s : Process) where
   of_part = family_tells (λ c f. IsOfPart c q f) q a s (record {
     defined = λ name e transid program no_child free shallow few n p led.
         let child = q ++ (a.made + 1) ∷ [] in
-        let new = new_activity name transid program (Some (unwrap_or e name)) in
+        let new = new_activity (format_of s) name transid program (Some (unwrap_or e name)) in
         let f : Activity → Activity = with_child (unwrap_or e name) (a.made + 1) in
         local_both (n ∷ p) (added child new) (edited q f)
         (local_added (n ∷ p) child (leads_on (n ∷ p) q child led (leads_append q ((a.made + 1) ∷ []))) new) (local_edited (n ∷ p) q led f);

@@ -13,7 +13,7 @@ use Rattle.bts_tree.specs.declared.activity.Activity.{Activity}
 use Rattle.bts_tree.specs.Activities.{child_limit, ended_by, is_at_rest, is_complete, new_activity, path_limit}
 use Rattle.bts_tree.specs.Modes.{is_reset}
 use Rattle.bts_tree.specs.Paths.{number_of, parent_of}
-use Rattle.bts_tree.specs.Processes.{Process, activity_at, added, child_of, complete, edited, removed}
+use Rattle.bts_tree.specs.Processes.{Process, activity_at, added, child_of, complete, edited, removed, format_of}
 use Rattle.bts_rows.specs.Completions.{completion_refusal, pool_of, with_child, with_completion, without_completion}
 use Rattle.bts_rows.specs.OnFamily.{Change, on_family, told}
 use Rattle.bts_rows.proofs.Allowed.{not_missing}
@@ -25,7 +25,7 @@ pub record Families (P : Command → Change → Type 0) (p : ActivityPath) (a : 
   pub defined : (name : Name) (e : Option Name) (transid program : Name) → child_of p name s ≡ None
       → define_refusal (unwrap_or e name) a.pool.events ≡ None → nat_le path_limit (length p) ≡ false → nat_le child_limit a.made ≡ false
       → P (command.DefineActivity name e transid program)
-      (λ t. added (p ++ (a.made + 1) ∷ []) (new_activity name transid program (Some (unwrap_or e name)))
+      (λ t. added (p ++ (a.made + 1) ∷ []) (new_activity (format_of s) name transid program (Some (unwrap_or e name)))
       (edited p (with_child (unwrap_or e name) (a.made + 1)) t))
   pub deleted : (name : Name) (x : ActivityPath × Activity) → child_of p name s ≡ Some x
       → P (command.DeleteActivity name) (λ t. without_completion x.0 (removed x.0 true t))

@@ -56,12 +56,14 @@ module _ (a : Activity) (s : IsSoundActivity a) where
         mode = refl;
         told = refl;
         made = refl;
+        format = refl;
         events = keeps_less is_owned is_childs owned_childs a.pool.events pool.events k;
       }
 
   -- the containers are others
-  pub fits_containers : (containers : Containers) → IsPool containers → let b : Activity = record a { containers = containers } in FitsIn a b
-  fits_containers containers p =
+  pub fits_containers : (containers : Containers) → IsPool containers → containers.format ≡ a.containers.format
+      → let b : Activity = record a { containers = containers } in FitsIn a b
+  fits_containers containers p format =
       let b : Activity = record a { containers = containers } in
       let e = s.timer_events in
       record {
@@ -79,6 +81,7 @@ module _ (a : Activity) (s : IsSoundActivity a) where
         mode = refl;
         told = refl;
         made = refl;
+        format = format;
         events = keeps_same is_childs a.pool.events;
       }
 
@@ -102,6 +105,7 @@ module _ (a : Activity) (s : IsSoundActivity a) where
         mode = refl;
         told = refl;
         made = refl;
+        format = refl;
         events = keeps_same is_childs a.pool.events;
       }
 
@@ -126,6 +130,7 @@ module _ (a : Activity) (s : IsSoundActivity a) where
         mode = refl;
         told = refl;
         made = refl;
+        format = refl;
         events = keeps_less (others t) is_childs (others_childs t) a.pool.events pool.events k;
       }
 

@@ -14,7 +14,7 @@ use Rattle.bts_command.specs.declared.command.Spot.{Spot}
 use Rattle.bts_command.specs.declared.command.Spot.TheVariants as spot
 use Rattle.bts_tree.specs.declared.activity.Activity.{Activity}
 use Rattle.bts_tree.specs.Paths.{is_child_of, leads_to, parent_of}
-use Rattle.bts_tree.specs.Processes.{Process, activities, activity_at, child_of, join, part, written}
+use Rattle.bts_tree.specs.Processes.{Process, activities, activity_at, child_of, join, part, written, format_of}
 use Rattle.bts_rows.proofs.Edits.{HasOrder, join_edited, join_part, ordered_case}
 use Rattle.bts_rows.proofs.Paths.{child_is, child_leads, parent_is}
 use Rattle.bts_rows.proofs.Local.{join_local}
@@ -185,7 +185,7 @@ module _ (n : ℕ) (p : ActivityPath) (s : Process) (order : HasOrder s.tree) wh
       → on_family c q a own ≡ on_family c q a s
   unfolding on_family
   reads_part (command.DefineActivity name event transid program) q a l u =
-      ap (define_activity name event transid program q a) (child_of-part (n ∷ p) q name s l)
+      ap (define_activity (format_of s) name event transid program q a) (child_of-part (n ∷ p) q name s l)
   reads_part (command.DeleteActivity name) q a l u = ap delete_activity (child_of-part (n ∷ p) q name s l)
   reads_part (command.Reset target) q a l u =
       ap (reset q a) (activity_at-part (n ∷ p) (parent_of q) s (ap (leads_to (n ∷ p)) (parent_is (n ∷ p) q u) ∙ leads_own (n ∷ p)))

@@ -13,7 +13,7 @@ use Rattle.bts_tree.specs.declared.activity.Activity.{Activity}
 use Rattle.bts_tree.specs.Activities.{Activities, by_cause, changed_at, completed, completed_one, is_complete, new_root}
 use Rattle.bts_tree.specs.Modes.{Cause}
 use Rattle.bts_tree.specs.Paths.{leads_to}
-use Rattle.bts_tree.specs.Processes.{Process, activities, activity_at, complete, edited, planted, purged}
+use Rattle.bts_tree.specs.Processes.{Process, activities, activity_at, complete, edited, planted, purged, format_of}
 use Rattle.bts_tree.specs.Scopes.{is_empty}
 use Rattle.bts_tree.specs.Soundness.{is_root, is_within}
 use Rattle.bts_rows.specs.Bounds.{is_bare_root, is_lone}
@@ -181,7 +181,7 @@ module _ (most : ℕ) (more : Bool) where
 none_below : (m : ℕ) → nat_le 0 m ≡ true
 none_below m = le-leb 0 m (omega arith)
 
-pub grows_planted : (most : ℕ) (more : Bool) (transid program : Name) (s : Process) → Grows 1 most more s (planted (new_root transid program) s)
+pub grows_planted : (most : ℕ) (more : Bool) (transid program : Name) (s : Process) → Grows 1 most more s (planted (new_root (format_of s) transid program) s)
 grows_planted most more transid program s = record {
   key = refl;
   generation = omega arith;

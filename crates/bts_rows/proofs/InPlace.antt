@@ -28,6 +28,7 @@ pub record StandsFor (a b : Activity) : Type 0 where
   pub complete : is_complete b ≡ is_complete a
   pub told : b.told ≡ a.told
   pub made : b.made ≡ a.made
+  pub format : b.containers.format ≡ a.containers.format
   pub events : Keeps is_childs a.pool.events b.pool.events
 
 -- the same, in the same mode
@@ -38,6 +39,7 @@ pub record FitsIn (a b : Activity) : Type 0 where
   pub mode : b.mode ≡ a.mode
   pub told : b.told ≡ a.told
   pub made : b.made ≡ a.made
+  pub format : b.containers.format ≡ a.containers.format
   pub events : Keeps is_childs a.pool.events b.pool.events
 
 stands_for : (a b : Activity) → FitsIn a b → StandsFor a b
@@ -49,6 +51,7 @@ stands_for a b f =
       complete = ap is_mode_complete f.mode;
       told = f.told;
       made = f.made;
+      format = f.format;
       events = f.events;
     }
 
@@ -64,6 +67,7 @@ stands_replaces t f p a b found fits = record {
   name = fits.name;
   completion = fits.completion;
   made = fits.made;
+  format = fits.format;
   told = λ r h. fits.told ∙ h;
   own = own_as_before t f p a b found fits.completion (λ n. sym (needs_same a b fits) ∙ n);
   waits = λ k c l h n.

@@ -1,5 +1,5 @@
 -- What all commands keep: each property of a process by what it asks of the things that commands change.
-use Rattle.std.proofs.Common.{◌≡◌, ℕ, Bool, true, false, List, Option, Some, None, is_some, Ok, refl, subst}
+use Rattle.std.proofs.Common.{◌≡◌, ℕ, Bool, true, false, List, Option, Some, None, is_some, Ok, refl, subst, sym}
 use Rattle.bts_names.specs.Names.{ActivityPath}
 use Rattle.bts_command.specs.Given.{IsGiven}
 use Rattle.bts_command.specs.declared.command.Command.{Command}
@@ -7,7 +7,7 @@ use Rattle.bts_command.specs.declared.command.Command.TheVariants as command
 use Rattle.bts_container.specs.Containers.{Containers}
 use Rattle.bts_tree.specs.declared.activity.Activity.{Activity}
 use Rattle.bts_tree.specs.Activities.{Activities}
-use Rattle.bts_tree.specs.Processes.{Process, activity_at, written}
+use Rattle.bts_tree.specs.Processes.{Process, activity_at, written, activities}
 use Rattle.bts_tree.specs.Soundness.{IsSoundInFrames, IsSoundUnder}
 use Rattle.bts_rows.specs.Bounds.{makes_more}
 use Rattle.bts_rows.specs.declared.places.Held.{Held}
@@ -27,6 +27,7 @@ use Rattle.bts_rows.proofs.FamilyLifts.{family_sound}
 use Rattle.bts_rows.proofs.Lifting.{IsInPlace, Lifts, none_of_family, row_tells}
 use Rattle.bts_rows.proofs.Telling.{SaysWhy, Tells, tells_more}
 use Rattle.bts_rows.proofs.Writing.{edit_writes}
+use Rattle.bts_rows.proofs.OneFormat.{AreIn}
 
 -- ---- replies
 
@@ -84,7 +85,13 @@ module _ (frames : List ActivityPath) (h : Here) (s : Process) (c : Command) (so
     same = sound;
     activity = sound_written;
     containers =
-        λ x t k. record { tree = process_case s s.tree x (t there) sound.tree; containers = k sound.containers; active = sound.active };
+        λ x t k.
+        record {
+          tree = process_case s s.tree x (t there) sound.tree;
+          containers = k.0 sound.containers;
+          formats = subst (λ f. AreIn f (activities s)) (sym k.1) sound.formats;
+          active = sound.active;
+        };
     family = sound_family;
   }
 

@@ -11,6 +11,7 @@ pub mod TimerCalls
 pub mod Written
 pub mod Completions
 pub mod InPlace
+pub mod OneFormat
 pub mod Active
 pub mod Turned
 pub mod Fits
@@ -49,6 +50,7 @@ pub mod Undoing
 pub mod EitherOrder
 pub mod Usual
 pub mod Acquiring
+pub mod FormatKept
 pub mod Tables
 pub mod Leading
 pub mod Replies

@@ -103,6 +103,7 @@ module _ (frames : List ActivityPath) where
       name = refl;
       completion = refl;
       made = refl;
+      format = refl;
       told = λ r h. root_told r;
       own = λ q k x e h n. waits_named x k a new refl (armed q k x e (ap (λ o. lookup q (unwrap_or o [])) own.is_tree ∙ h));
       waits = λ k c l h n. absurd (no_child_stays p k l);

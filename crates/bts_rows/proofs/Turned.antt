@@ -10,7 +10,7 @@ use Rattle.bts_names.specs.declared.state.Status.TheVariants as status
 use Rattle.bts_tree.specs.declared.activity.Activity.{Activity}
 use Rattle.bts_tree.specs.Activities.{by_cause, changed_at, changed_by, is_complete, is_dormant, is_initial, written_at}
 use Rattle.bts_tree.specs.Modes.{frame_opens, is_mode_active, is_mode_complete, is_mode_dormant, is_mode_initial, waits}
-use Rattle.bts_tree.specs.Processes.{Process, activity_at, edited}
+use Rattle.bts_tree.specs.Processes.{Process, activity_at, edited, format_of}
 use Rattle.bts_tree.specs.Soundness.{IsSoundActivity, IsSoundInFrames}
 use Rattle.bts_rows.proofs.Active.{active_at, is_active, runs_at, sound_in_frames}
 use Rattle.bts_rows.proofs.Changes.{family_edited}
@@ -19,6 +19,7 @@ use Rattle.bts_rows.proofs.InPlace.{StandsFor, is_childs, stands_replaces, own_s
 use Rattle.bts_rows.proofs.Keeps.{keeps_same}
 use Rattle.bts_rows.proofs.Trees.{tree_from}
 use Rattle.bts_rows.proofs.Written.{lookup-written}
+use Rattle.bts_rows.proofs.OneFormat.{in_written}
 
 -- ---- modes
 
@@ -55,6 +56,7 @@ in_mode m a s goes_on h =
       complete = h ∙ sym goes_on;
       told = refl;
       made = refl;
+      format = refl;
       events = keeps_same is_childs a.pool.events;
     }
 
@@ -79,6 +81,7 @@ module _ (frames others : List ActivityPath) (s : Process) (q : ActivityPath) (f
       let family = family_edited at.tree at.family q a (f a) at.found (stands_replaces at.tree at.family q a (f a) at.found fits) in
       sound_in_frames others (edited q f s) (written_at q (f a) at.tree) changed
       (tree_from (written_at q (f a) at.tree) family) at.defined sound.containers
+      (in_written (format_of s) q (f a) (fits.format ∙ at.format) at.tree at.formats)
       (λ p. ap is_active (lookup-written q (f a) at.tree p (ap is_some at.found))
       ∙ read_case
       (same q p)

@@ -11,7 +11,7 @@ use Rattle.bts_tree.specs.declared.activity.Activity.{Activity}
 use Rattle.bts_tree.specs.Activities.{Activities, changed_at, changed_by, completed_at, completed_one, ended_by, is_complete, new_activity}
 use Rattle.bts_tree.specs.Modes.{is_reset}
 use Rattle.bts_tree.specs.Paths.{parent_of}
-use Rattle.bts_tree.specs.Processes.{Process, activity_at, added, complete, edited, no_process, removed}
+use Rattle.bts_tree.specs.Processes.{Process, activity_at, added, complete, edited, no_process, removed, format_of}
 use Rattle.bts_tree.specs.Soundness.{IsSoundInFrames}
 use Rattle.bts_rows.specs.Completions.{with_child, with_completion, without_completion}
 use Rattle.bts_rows.proofs.InPlace.{own_sound}
@@ -29,10 +29,11 @@ use Rattle.bts_rows.proofs.Lifting.{row_tells}
 use Rattle.bts_rows.proofs.FamilyRows.{family_tells}
 use Rattle.bts_rows.proofs.Telling.{Tells, tells_more}
 use Rattle.bts_rows.proofs.Writing.{edit_writes}
+use Rattle.bts_container.specs.declared.format.Format.{Format}
 
 -- a process that was never defined has none
-pub usual_none : (key : Key) → AreUsual (no_process key)
-usual_none key p a n e = cc
+pub usual_none : (f : Format) (key : Key) → AreUsual (no_process f key)
+usual_none f key p a n e = cc
 
 -- ---- changes
 
@@ -103,7 +104,7 @@ module _ (s : Process) (usual : AreUsual s) where
   family_usual p a = family_tells (λ c change. IsGiven c → AreUsual (change s)) p a s (record {
     defined = λ name e transid program no_child free shallow few g.
         let f : Activity → Activity = with_child (unwrap_or e name) (a.made + 1) in
-        usual_added (p ++ (a.made + 1) ∷ []) (new_activity name transid program (Some (unwrap_or e name))) (edited p f s)
+        usual_added (p ++ (a.made + 1) ∷ []) (new_activity (format_of s) name transid program (Some (unwrap_or e name))) (edited p f s)
         (λ n i. let j : unwrap_or e name ≡ n = cc in ap (λ z. same z initial_name) (sym j) ∙ event_name name e g.names)
         (usual_edited p f s usual (λ b. refl));
     deleted = λ name x e g. usual_without x.0 (removed x.0 true s) (usual_removed x.0 true s usual);

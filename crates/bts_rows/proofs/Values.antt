@@ -5,8 +5,7 @@ use Rattle.bts_names.specs.Answer.{Answer, refused, done, reply_of}
 use Rattle.bts_command.specs.Numbers.{command_number}
 use Rattle.bts_command.specs.Sizes.{got_bytes}
 use Rattle.bts_command.specs.declared.command.Command.{Command}
-use Rattle.bts_container.specs.Containers.{size_limit}
-use Rattle.bts_tree.specs.Processes.{Process, join, part}
+use Rattle.bts_tree.specs.Processes.{Process, join, part, format_of}
 use Rattle.bts_tree.specs.Soundness.{IsSoundInFrames}
 use Rattle.bts_rows.specs.declared.places.Held.{Held}
 use Rattle.bts_rows.specs.declared.places.Here.{Here}
@@ -19,6 +18,7 @@ use Rattle.bts_rows.proofs.Lifting.{ShortIn, row_gives}
 use Rattle.bts_rows.proofs.Replies.{acquires_any}
 use Rattle.bts_rows.proofs.Short.{HoldsShort, part_short, sound_is_short}
 use Rattle.bts_rows.proofs.Telling.{TellsWith, tells_mapped, tells_more}
+use Rattle.bts_container.specs.Formats.{size_limit}
 
 module _ (m : ℕ) where
   abbrev GivesAtMost : {S : Type 0} → Answer S → Type 0
@@ -53,6 +53,6 @@ module _ (m : ℕ) where
 -- what a command is answered on a sound process
 pub answered_short : (frames : List ActivityPath) (h : Here) (held : Held) (depth now : ℕ) (s : Process) (c : Command)
     → IsSoundInFrames frames s
-    → got_bytes (reply_of (answer h held depth now s c)).value ≤ size_limit
+    → got_bytes (reply_of (answer h held depth now s c)).value ≤ size_limit (format_of s)
 answered_short frames h held depth now s c sound =
-    replied size_limit (answer h held depth now s c) (of_answer size_limit h held depth now s c (sound_is_short frames s sound))
+    replied (size_limit (format_of s)) (answer h held depth now s c) (of_answer (size_limit (format_of s)) h held depth now s c (sound_is_short frames s sound))

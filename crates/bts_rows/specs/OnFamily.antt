@@ -8,27 +8,28 @@ use Rattle.bts_names.specs.declared.reply.Value.TheVariants as value
 use Rattle.bts_names.specs.declared.state.Status.TheVariants as status
 use Rattle.bts_command.specs.declared.command.Command.{Command}
 use Rattle.bts_command.specs.declared.command.Command.TheVariants as command
+use Rattle.bts_container.specs.declared.format.Format.{Format}
 use Rattle.bts_event.specs.Refusals.{define_refusal}
 use Rattle.bts_tree.specs.declared.activity.Activity.{Activity}
 use Rattle.bts_tree.specs.Modes.{is_reset}
 use Rattle.bts_tree.specs.Paths.{number_of, parent_of}
 use Rattle.bts_tree.specs.Activities.{child_limit, ended_by, is_at_rest, is_complete, new_activity, path_limit}
-use Rattle.bts_tree.specs.Processes.{Process, activity_at, added, child_of, complete, edited, removed}
+use Rattle.bts_tree.specs.Processes.{Process, activity_at, added, child_of, complete, edited, format_of, removed}
 use Rattle.bts_rows.specs.Completions.{completion_refusal, pool_of, with_child, with_completion, without_completion}
 
 -- a row reads what stands near the activity, and leaves a change of the process: so it may be made on a part of it
 abbrev pub Change : Type 0
 Change = Process → Process
 
-abbrev pub define_activity : Name → Option Name → Name → Name → ActivityPath → Activity → Option (ActivityPath × Activity) → Answer Change
-define_activity name event transid program p a found =
+abbrev pub define_activity : Format → Name → Option Name → Name → Name → ActivityPath → Activity → Option (ActivityPath × Activity) → Answer Change
+define_activity f name event transid program p a found =
     let e : Name = unwrap_or event name in
     let n : ℕ = a.made + 1 in
     refuse resp.Activityerr because reason.Taken when is_some found otherwise
     refuse resp.Eventerr for define_refusal e a.pool.events otherwise
     refuse resp.Activityerr because reason.Depth when nat_le path_limit (length p) otherwise
     refuse resp.Activityerr because reason.Limit when nat_le child_limit a.made otherwise
-    done (value.Id (p ++ n ∷ [])) (λ s. added (p ++ n ∷ []) (new_activity name transid program (Some e)) (edited p (with_child e n) s))
+    done (value.Id (p ++ n ∷ [])) (λ s. added (p ++ n ∷ []) (new_activity f name transid program (Some e)) (edited p (with_child e n) s))
 
 abbrev pub delete_activity : Option (ActivityPath × Activity) → Answer Change
 delete_activity found =
@@ -61,7 +62,7 @@ reset p a parent =
 -- ---- the commands, by the activity from which on the process is looked at
 
 unfoldable pub on_family : Command → ActivityPath → Activity → Process → Answer Change
-on_family (command.DefineActivity name e transid program) p a s = define_activity name e transid program p a (child_of p name s)
+on_family (command.DefineActivity name e transid program) p a s = define_activity (format_of s) name e transid program p a (child_of p name s)
 on_family (command.DeleteActivity name) p a s = delete_activity (child_of p name s)
 on_family (command.Check target) p a s = check_child p a
 on_family (command.Cancel target) p a s = cancel p a

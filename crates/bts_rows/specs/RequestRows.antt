@@ -8,7 +8,7 @@ use Rattle.bts_names.specs.declared.reply.Value.TheVariants as value
 use Rattle.bts_command.specs.declared.command.Command.{Command}
 use Rattle.bts_command.specs.declared.command.Command.TheVariants as command
 use Rattle.bts_tree.specs.Activities.{new_root, is_at_rest}
-use Rattle.bts_tree.specs.Processes.{Process, activity_at, has_tree, planted, purged}
+use Rattle.bts_tree.specs.Processes.{Process, activity_at, format_of, has_tree, planted, purged}
 use Rattle.bts_rows.specs.declared.places.Held.{Held}
 use Rattle.bts_rows.specs.declared.places.Held.TheVariants as held
 
@@ -25,7 +25,7 @@ abbrev pub define_process_row : Held → Process → Name → Name → Answer (P
 define_process_row h s transid program =
     refuse resp.Invreq because reason.Acquired when has_acquired h otherwise
     refuse resp.Processerr because reason.Taken when has_tree s otherwise
-    done value.Nothing (planted (new_root transid program) s, held.Process)
+    done value.Nothing (planted (new_root (format_of s) transid program) s, held.Process)
 
 abbrev pub acquire_process_row : Held → Process → Answer (Process × Held)
 acquire_process_row h s =

@@ -13,13 +13,15 @@ ghost use Rattle.bts_command.specs.Sizes.{got_bytes};
 ghost use Rattle.bts_command.specs.declared.command.Command.{Command};
 ghost use Rattle.bts_command.specs.declared.command.Command.TheVariants as command;
 ghost use Rattle.bts_command.specs.declared.command.Target.{Target};
-ghost use Rattle.bts_container.specs.Containers.{size_limit};
+ghost use Rattle.bts_container.specs.Formats.{size_limit};
+ghost use Rattle.bts_container.specs.declared.format.Format.{Format};
 ghost use Rattle.bts_tree.specs.declared.activity.Activity.{Activity};
 ghost use Rattle.bts_tree.specs.Activities.{is_complete, new_activity};
 ghost use Rattle.bts_tree.specs.Leading.{leads_from};
 ghost use Rattle.bts_tree.specs.Modes.{is_forced, is_reset};
-ghost use Rattle.bts_tree.specs.Processes.{Process, activities, activity_at};
+ghost use Rattle.bts_tree.specs.Processes.{Process, activities, activity_at, format_of};
 ghost use Rattle.bts_tree.specs.Soundness.{IsSoundInFrames, is_within};
+ghost use Rattle.bts_rows.specs.Along.{PlacedCommand, left_along};
 ghost use Rattle.bts_rows.specs.Bounds.{is_lone, makes_more, raised_by};
 ghost use Rattle.bts_rows.specs.Families.{AreUsual, IsTop, rearms, resets};
 ghost use Rattle.bts_rows.specs.Places.{about_of, find_target, is_family};
@@ -35,10 +37,11 @@ pub fn replies_say_why()
         → IsProper (reply_of (answer h held depth now s c)) }
 {}
 
-/// A command on a sound process is answered with no more bytes than a container may have.
+/// A command on a sound process is answered with no more bytes than a container of its format may have.
 pub fn what_is_answered_is_short()
     ensures { (frames : List ActivityPath) (h : Here) (held : Held) (depth now : ℕ) (s : Process) (c : Command)
-        → IsSoundInFrames frames s → got_bytes (reply_of (answer h held depth now s c)).value ≤ size_limit }
+        → IsSoundInFrames frames s
+        → got_bytes (reply_of (answer h held depth now s c)).value ≤ size_limit (format_of s) }
 {}
 
 /// A command that isn't answered NORMAL leaves the process, and what the request has acquired, as they were.
@@ -65,6 +68,19 @@ pub fn commands_keep_soundness()
     ensures request { (held : Held) (depth now : ℕ) (s : Process) (c : Command)
         → IsGiven c → (resets c ≡ true → AreUsual s)
         → IsSoundInFrames [] s → IsSoundInFrames [] (left_by (s, held) (request_in held depth now s c)).0 }
+{}
+
+/// Each command leaves the format of a process as it was: in the frame of an activity; in a request's first frame and
+/// beside it; also where it acquires the process or purges it. So do any commands, one after the other.
+pub fn commands_keep_the_format()
+    ensures frame { (path : ActivityPath) (depth now : ℕ) (s : Process) (c : Command)
+        → format_of (left_by s (act_at path depth now s c)) ≡ format_of s }
+    ensures beside { (h : Here) (depth now : ℕ) (s : Process) (c : Command)
+        → format_of (left_by s (thing_row h depth now s c)) ≡ format_of s }
+    ensures request { (held : Held) (depth now : ℕ) (s : Process) (c : Command)
+        → format_of (left_by (s, held) (request_in held depth now s c)).0 ≡ format_of s }
+    ensures along { (cs : List PlacedCommand) (s : Process)
+        → format_of (left_along cs s) ≡ format_of s }
 {}
 
 /// Where no child's completion event has the name that the system keeps for itself, none has it behind a command on a
@@ -104,8 +120,8 @@ pub fn only_definitions_make_more()
 /// INITIAL; CANCEL is answered NORMAL only where its target, which has no open frame, is INITIAL or DORMANT, and forces
 /// what isn't COMPLETE below it from these too; RESET is answered NORMAL only where its target is INITIAL or COMPLETE.
 pub fn rows_lead_from_the_modes_of_their_table()
-    ensures new { (name transid program : Name) (completion : Option Name)
-        → (new_activity name transid program completion).mode ≡ Initial }
+    ensures new { (f : Format) (name transid program : Name) (completion : Option Name)
+        → (new_activity f name transid program completion).mode ≡ Initial }
     ensures cancel { (frames : List ActivityPath) (h : Here) (depth now : ℕ) (s : Process) (target : Target)
         → (p : ActivityPath) (a : Activity) → IsSoundInFrames frames s → find_target h s target ≡ Ok p
         → activity_at p s ≡ Some a → list_any (same p) frames ≡ false

@@ -12,8 +12,9 @@ mod places;
 
 pub use laws::{
     a_frame_reads_its_part, a_refused_command_changes_nothing, commands_keep_names_usual,
-    commands_keep_soundness, numbers_rise_by_one, only_definitions_make_more, replies_say_why,
-    rows_lead_from_the_modes_of_their_table, what_is_answered_is_short,
+    commands_keep_soundness, commands_keep_the_format, numbers_rise_by_one,
+    only_definitions_make_more, replies_say_why, rows_lead_from_the_modes_of_their_table,
+    what_is_answered_is_short,
 };
 pub use limits::FRAME_LIMIT;
 pub use places::{About, Held, Here, Thing, Unfound};

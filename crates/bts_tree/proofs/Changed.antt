@@ -9,7 +9,7 @@ use Rattle.bts_names.specs.Names.{Name, ActivityPath, same, same_exact}
 use Rattle.bts_names.specs.Named.{lookup}
 use Rattle.bts_names.specs.declared.key.Key.{Key}
 use Rattle.bts_names.specs.declared.state.Status.{Status}
-use Rattle.bts_container.specs.Containers.{Containers}
+use Rattle.bts_container.specs.Containers.{Containers, no_containers}
 use Rattle.bts_tree.specs.Activities.{Activities, within, completed_one, stays_without, completed, forced, written_at, completed_at, without_below}
 use Rattle.bts_tree.specs.Paths.{leads_to}
 use Rattle.bts_tree.specs.Processes.{Process, activity_at, on_tree, written, with_containers, complete, removed, purged}
@@ -255,10 +255,10 @@ module _ (key : Key) (w : Own) (es : Slots) (os : Olds) (ns : List ℕ) (h : Hel
       (λ n l. emptied_kept p itself (drop n os) es (saved_below p there saved n l).1) (filled_emptied p itself es)
       ∙ ap (λ b. holding (cond b (purged h.process) (on_tree (without_below p itself) h.process)) h) (sym root)
 
-  pub purge_step : (p : ActivityPath) (itself : Bool) (ds : Slots) (c : Containers) → IsSome (activity_at p h.process) → IsSaved p true h → ds ≡ mapped (emptied_slot p itself) es → c ≡ [] → (itself && same p []) ≡ true
+  pub purge_step : (p : ActivityPath) (itself : Bool) (ds : Slots) (c : Containers) → IsSome (activity_at p h.process) → IsSaved p true h → ds ≡ mapped (emptied_slot p itself) es → c ≡ no_containers w.containers.format → (itself && same p []) ≡ true
       → shown key (record { generation = w.generation; planted = false; containers = c }) ds os ns ≡ holding (removed p itself h.process) h
   purge_step p itself ds c there saved e none root =
-      let v : Own = record { generation = w.generation; planted = false; containers = [] } in
+      let v : Own = record { generation = w.generation; planted = false; containers = no_containers w.containers.format } in
       let path : p ≡ [] = same_exact p [] (right_true itself (same p []) root) in
       (λ i. shown key (record { generation = w.generation; planted = false; containers = none i }) (e i) os ns)
       ∙ shown_changed key w v (emptied_slot p itself) es os ns h (purged h.process) view u

@@ -1,5 +1,5 @@
 -- The place of the newest old field at a path, as the list grows and shrinks.
-use Rattle.std.proofs.Common.{◌≡◌, ◌+◌, ℕ, zero, suc, Bool, true, false, cond, ◌||◌, List, [], ◌∷◌, ◌++◌, drop, length, refl, ap, sym, subst, ◌∙◌, arith, nat_lt, append_assoc, ◌≤◌, ◌<◌, take, length-append}
+use Rattle.std.proofs.Common.{◌≡◌, ◌+◌, ℕ, zero, suc, Bool, true, false, cond, ◌||◌, List, [], ◌∷◌, ◌++◌, drop, length, refl, ap, sym, ◌∙◌, arith, nat_lt, append_assoc, ◌≤◌, ◌<◌, take, length-append}
 use Rattle.std.specs.Prelude.{Option, Some, None, IsSome, IfNone}
 use Rattle.std.specs.Option.{unwrap_or, option_to_list}
 use Rattle.std.proofs.Math.Numerals.{suc-eq-add-one}

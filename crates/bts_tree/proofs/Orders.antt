@@ -157,8 +157,8 @@ pub chosen_in_order : (test : Activity → Bool) (repo : Processes) → AreSound
 chosen_in_order test repo h =
     flat_rises place_cmp key_cmp (λ (s : Process). s.key) (λ (y : Place). y.0) (λ y. Unit {0}) (chosen_of test)
     (λ s. all_made place_cmp (slice_cmp nat_cmp) (λ (x : ActivityPath × Activity). x.0) (λ x. (s.key, x.0)) (λ x. test x.1) (λ y. (y.0 ≡ s.key) × Unit {0}) (λ x. (refl, tt)) (activities s))
-    (λ y z u v l. ap (λ o. ordering_then o (slice_cmp nat_cmp y.1 z.1)) l) repo h.keys_rise
-    (all_weaker (IsSoundInFrames []) (λ s. IsStrictlySortedBy place_cmp (chosen_of test s)) (λ s i. chosen_rise test s.key (activities s) (paths_rise s i)) repo h.each)
+    (λ y z u v l. ap (λ o. ordering_then o (slice_cmp nat_cmp y.1 z.1)) l) repo.items h.keys_rise
+    (all_weaker (IsSoundInFrames []) (λ s. IsStrictlySortedBy place_cmp (chosen_of test s)) (λ s i. chosen_rise test s.key (activities s) (paths_rise s i)) repo.items h.each)
 
 -- the timers of an activity that are due have its key and path
 dues_keyed : (now : ℕ) (s : Process) (tree : Activities) → AllByRecursion (λ (y : TimerPlace). (y.0 ≡ s.key) × Unit {0}) (due_among now s.key tree)
@@ -171,5 +171,5 @@ dues_keyed now s (x ∷ tree) =
 pub due_in_order : (now : ℕ) (repo : Processes) → AreSound repo → IsStrictlySortedBy timer_place_cmp (due_in now repo)
 due_in_order now repo h =
     flat_rises timer_place_cmp key_cmp (λ (s : Process). s.key) (λ (y : TimerPlace). y.0) (λ y. Unit {0}) (due_of now) (λ s. dues_keyed now s (activities s))
-    (λ y z u v l. ap (λ o. ordering_then o (ordering_then (slice_cmp nat_cmp y.1 z.1) (slice_cmp nat_cmp y.2 z.2))) l) repo h.keys_rise
-    (all_weaker (IsSoundInFrames []) (λ s. IsStrictlySortedBy timer_place_cmp (due_of now s)) (λ s i. dues_rise now s.key (activities s) (paths_rise s i) (each_sound s i)) repo h.each)
+    (λ y z u v l. ap (λ o. ordering_then o (ordering_then (slice_cmp nat_cmp y.1 z.1) (slice_cmp nat_cmp y.2 z.2))) l) repo.items h.keys_rise
+    (all_weaker (IsSoundInFrames []) (λ s. IsStrictlySortedBy timer_place_cmp (due_of now s)) (λ s i. dues_rise now s.key (activities s) (paths_rise s i) (each_sound s i)) repo.items h.each)

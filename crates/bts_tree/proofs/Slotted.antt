@@ -21,8 +21,8 @@ use Rattle.bts_names.specs.declared.key.Key.{Key}
 use Rattle.bts_names.specs.declared.state.Status.{Status}
 use Rattle.bts_tree.specs.Activities.{Activities, written_at, completed_at, completed_one, without_below, stays_without}
 use Rattle.bts_tree.specs.declared.activity.Activity.{Activity}
-use Rattle.bts_tree.specs.Repositories.{due_at, due_among}
-use Rattle.bts_tree.specs.Slots.{Slots, AreFilled, in_slots, Change, filled, in_slot, flat, read, mapped, put_at, completed_slot, emptied_slot}
+use Rattle.bts_tree.specs.Repositories.{due_at, due_among, raised_activity, raised_tree}
+use Rattle.bts_tree.specs.Slots.{Slots, AreFilled, in_slots, Change, filled, in_slot, flat, read, mapped, put_at, completed_slot, emptied_slot, raised_slot}
 
 abbrev pub IsRising : Slots → Type 0
 IsRising es = IsStrictlySortedBy (slice_cmp nat_cmp) (keys_of es)
@@ -145,7 +145,23 @@ filled_emptied p itself (e ∷ es) = by e.1 (stays_without p itself e.0) refl (f
     by (Some a) false h i =
         i ∙ sym (ap (λ b. cond b ((e.0, a) ∷ without_below p itself (filled es)) (without_below p itself (filled es))) h)
 
+pub filled_raised : (es : Slots) → filled (mapped raised_slot es) ≡ raised_tree (filled es)
+filled_raised [] = refl
+filled_raised (e ∷ es) = by e.1 (filled_raised es)
+  where
+    by : (x : Option Activity) → filled (mapped raised_slot es) ≡ raised_tree (filled es) → in_slot e.0 (option_map raised_activity x) (filled (mapped raised_slot es)) ≡ raised_tree (in_slot e.0 x (filled es))
+    by None i = i
+    by (Some a) i = ap (λ t. (e.0, raised_activity a) ∷ t) i
+
 -- ---- trees, where every slot is filled
+
+pub raised_filled : (es : Slots) → AreFilled es → AreFilled (mapped raised_slot es)
+raised_filled [] a = a
+raised_filled (e ∷ es) a = (by e.1 a.0, raised_filled es a.1)
+  where
+    by : (x : Option Activity) → is_some x ≡ true → is_some (option_map raised_activity x) ≡ true
+    by None h = h
+    by (Some b) h = refl
 
 filled_all : (P : ActivityPath → Type 0) (es : Slots) → AllByRecursion P (keys_of es) → AllByRecursion P (keys_of (filled es))
 filled_all P [] a = a

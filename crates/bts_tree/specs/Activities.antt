@@ -7,6 +7,8 @@ use Rattle.bts_names.specs.Named.{lookup}
 use Rattle.bts_names.specs.declared.state.Mode.TheVariants as mode
 use Rattle.bts_names.specs.declared.state.Status.{Status}
 use Rattle.bts_names.specs.declared.state.Status.TheVariants as status
+use Rattle.bts_container.specs.Containers.{no_containers}
+use Rattle.bts_container.specs.declared.format.Format.{Format}
 use Rattle.bts_event.specs.Pool.{empty_pool, cleared}
 use Rattle.bts_tree.specs.Modes.{Cause, change_of, is_mode_initial, is_mode_dormant, is_mode_complete}
 use Rattle.bts_tree.specs.Paths.{leads_to, is_child_of}
@@ -25,8 +27,8 @@ child_limit = 1_000_000
 
 -- ---- one activity
 
-abbrev pub new_activity : Name → Name → Name → Option Name → Activity
-new_activity name transid program completion =
+abbrev pub new_activity : Format → Name → Name → Name → Option Name → Activity
+new_activity f name transid program completion =
     record {
       name = name;
       transid = transid;
@@ -39,12 +41,12 @@ new_activity name transid program completion =
       told = is_none completion;
       pool = empty_pool;
       timers = [];
-      containers = [];
+      containers = no_containers f;
       made = 0;
     }
 
-abbrev pub new_root : Name → Name → Activity
-new_root transid program = new_activity root_name transid program None
+abbrev pub new_root : Format → Name → Name → Activity
+new_root f transid program = new_activity f root_name transid program None
 
 abbrev pub is_initial : Activity → Bool
 is_initial a = is_mode_initial a.mode

@@ -1,5 +1,6 @@
 pub mod Activities
 pub mod Fields
+pub mod Indexes
 pub mod Keeping
 pub mod Lending
 pub mod Modes

@@ -8,7 +8,8 @@ use Rattle.bts_names.specs.Names.{Name, ActivityPath, same}
 use Rattle.bts_names.specs.Named.{lookup, in_order}
 use Rattle.bts_names.specs.declared.key.Key.{Key}
 use Rattle.bts_names.specs.declared.state.Status.{Status}
-use Rattle.bts_container.specs.Containers.{Containers}
+use Rattle.bts_container.specs.Containers.{Containers, no_containers}
+use Rattle.bts_container.specs.declared.format.Format.{Format}
 use Rattle.bts_event.specs.Pool.{Pool}
 use Rattle.bts_tree.specs.Activities.{Activities, changed_at, written_at, completed_at, without_below, within, child_in}
 use Rattle.bts_tree.specs.Paths.{leads_to}
@@ -22,9 +23,13 @@ pub record Process : Type 0 where
   pub tree : Option Activities
   pub containers : Containers
 
+-- its format is that of its own containers
+abbrev pub format_of : Process → Format
+format_of s = s.containers.format
+
 -- the process of a key that was never defined
-abbrev pub no_process : Key → Process
-no_process key = record { key = key; generation = 0; tree = None; containers = [] }
+abbrev pub no_process : Format → Key → Process
+no_process f key = record { key = key; generation = 0; tree = None; containers = no_containers f }
 
 abbrev pub activities : Process → Activities
 activities s = unwrap_or s.tree []
@@ -68,7 +73,7 @@ planted root s = record { key = s.key; generation = s.generation + 1; tree = Som
 
 -- the tree and the process containers go
 abbrev pub purged : Process → Process
-purged s = record { key = s.key; generation = s.generation; tree = None; containers = [] }
+purged s = record { key = s.key; generation = s.generation; tree = None; containers = no_containers (format_of s) }
 
 -- the activities below a path go, and perhaps its own; with the root's all goes
 abbrev pub removed : ActivityPath → Bool → Process → Process

@@ -10,52 +10,79 @@ use Rattle.bts_names.specs.Keys.{key_cmp}
 use Rattle.bts_names.specs.Names.{Name, ActivityPath}
 use Rattle.bts_names.specs.declared.key.Key.{Key}
 use Rattle.bts_names.specs.declared.row.Row.{Row}
+use Rattle.bts_container.specs.Containers.{raised}
+use Rattle.bts_container.specs.declared.format.Format.{Format}
+use Rattle.bts_container.specs.declared.format.Format.TheVariants as format
 use Rattle.bts_timer.specs.Due.{is_due}
 use Rattle.bts_timer.specs.Timers.{Timers}
 use Rattle.bts_tree.specs.Activities.{Activities, is_ready, is_untold}
-use Rattle.bts_tree.specs.Processes.{Process, no_process, activities, activity_at, queued}
+use Rattle.bts_tree.specs.Processes.{Process, no_process, with_containers, on_tree, activities, activity_at, queued}
 use Rattle.bts_tree.specs.Scopes.{HeldProcess, held_whole}
 use Rattle.bts_tree.specs.declared.activity.Activity.{Activity}
 use Rattle.bts_tree.specs.declared.mark.Mark.{Mark}
 
--- processes by rising key
-abbrev pub Processes : Type 0
-Processes = List Process
+-- processes by rising key, in one format
+pub record Processes : Type 0 where
+  pub format : Format
+  pub items : List Process
+
+abbrev pub no_processes : Format → Processes
+no_processes f = record { format = f; items = [] }
 
 -- the processes of a repository, and the keys for which it has room
 pub record Stored : Type 0 where
   pub processes : Processes
   pub room : List Key
 
-abbrev pub keys_of_processes : Processes → List Key
-keys_of_processes repo = map (λ s. s.key) repo
+-- the repository that has nothing, in the first format
+abbrev pub nothing_stored : Stored
+nothing_stored = record { processes = no_processes format.One; room = [] }
 
-abbrev pub stored_of : Processes → Stored
-stored_of repo = record { processes = repo; room = keys_of_processes repo }
+abbrev pub keys_of_processes : Processes → List Key
+keys_of_processes repo = map (λ s. s.key) repo.items
 
 abbrev pub same_key : Key → Key → Bool
 same_key = eq_by_cmp key_cmp
 
+abbrev pub found_or : Process → Key → List Process → Process
+found_or other key [] = other
+found_or other key (s ∷ ss) = cond (same_key key s.key) s (found_or other key ss)
+
 -- what stands under a key, or the process that was never defined
 abbrev pub process_at : Key → Processes → Process
-process_at key [] = no_process key
-process_at key (s ∷ repo) = cond (same_key key s.key) s (process_at key repo)
+process_at key repo = found_or (no_process repo.format key) key repo.items
 
 -- whether a process stands under a key
 abbrev pub is_defined : Key → Processes → Bool
 is_defined key repo = list_any (same_key key) (keys_of_processes repo)
 
 -- the list with this process under its key
-abbrev pub placed_by_key : Process → Processes → Processes
+abbrev pub placed_by_key : Process → List Process → List Process
 placed_by_key s [] = s ∷ []
-placed_by_key s (t ∷ repo) = match_ordering (key_cmp s.key t.key) (s ∷ t ∷ repo) (s ∷ repo) (t ∷ placed_by_key s repo)
+placed_by_key s (t ∷ ts) = match_ordering (key_cmp s.key t.key) (s ∷ t ∷ ts) (s ∷ ts) (t ∷ placed_by_key s ts)
 
-abbrev pub without_key : Key → Processes → Processes
+abbrev pub without_key : Key → List Process → List Process
 without_key key = filter (λ t. not (same_key key t.key))
 
--- replaces what stands under the process's key; one that was never defined doesn't stand there
+abbrev pub with_process : Process → List Process → List Process
+with_process s ss = cond (nat_eq s.generation 0) (without_key s.key ss) (placed_by_key s ss)
+
+-- replaces what stands under the process's key, and leaves the format; one that was never defined doesn't stand there
 abbrev pub put : Process → Processes → Processes
-put s repo = cond (nat_eq s.generation 0) (without_key s.key repo) (placed_by_key s repo)
+put s repo = record { format = repo.format; items = with_process s repo.items }
+
+-- the same activities and processes in the second format
+abbrev pub raised_activity : Activity → Activity
+raised_activity a = record a { containers = raised a.containers }
+
+abbrev pub raised_tree : Activities → Activities
+raised_tree = map (λ x. (x.0, raised_activity x.1))
+
+abbrev pub raised_process : Process → Process
+raised_process s = with_containers (raised s.containers) (on_tree raised_tree s)
+
+abbrev pub raised_all : Processes → Processes
+raised_all repo = record { format = format.Two; items = map raised_process repo.items }
 
 -- ---- what a unit holds
 
@@ -73,7 +100,7 @@ abbrev pub has_room : Key → Stored → Bool
 has_room key r = list_any (same_key key) r.room
 
 abbrev pub queued_in : Processes → List Mark
-queued_in = flat_map queued
+queued_in repo = flat_map queued repo.items
 
 -- ---- rows
 
@@ -97,7 +124,7 @@ abbrev pub rows_of : Process → List Row
 rows_of s = map (row_of s.key s.generation) (activities s)
 
 abbrev pub rows : Processes → List Row
-rows = flat_map rows_of
+rows repo = flat_map rows_of repo.items
 
 -- ---- what is enabled
 
@@ -123,7 +150,7 @@ abbrev pub chosen_of : (Activity → Bool) → Process → List Place
 chosen_of test s = chosen_at test s.key (activities s)
 
 abbrev pub chosen : (Activity → Bool) → Processes → List Place
-chosen test = flat_map (chosen_of test)
+chosen test repo = flat_map (chosen_of test) repo.items
 
 abbrev pub ready_in : Processes → List Place
 ready_in = chosen is_ready
@@ -142,7 +169,7 @@ abbrev pub due_of : ℕ → Process → List TimerPlace
 due_of now s = due_among now s.key (activities s)
 
 abbrev pub due_in : ℕ → Processes → List TimerPlace
-due_in now = flat_map (due_of now)
+due_in now repo = flat_map (due_of now) repo.items
 
 abbrev pub is_ready_at : Key → ActivityPath → Processes → Bool
 is_ready_at key p repo = unwrap_or (option_map is_ready (activity_at p (process_at key repo))) false

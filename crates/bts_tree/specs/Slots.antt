@@ -9,6 +9,7 @@ use Rattle.bts_names.specs.Names.{Name, ActivityPath, same}
 use Rattle.bts_names.specs.Named.{lookup, is_there}
 use Rattle.bts_names.specs.declared.state.Status.{Status}
 use Rattle.bts_tree.specs.Activities.{Activities, completed_one, stays_without}
+use Rattle.bts_tree.specs.Repositories.{raised_activity}
 use Rattle.bts_tree.specs.declared.activity.Activity.{Activity}
 
 abbrev pub Slots : Type 0
@@ -56,6 +57,10 @@ completed_slot p status code q y = option_map (λ a. completed_one p status code
 
 abbrev pub emptied_slot : ActivityPath → Bool → Change
 emptied_slot p itself q y = cond (stays_without p itself q) y None
+
+-- what is there is in the second format
+abbrev pub raised_slot : Change
+raised_slot q y = option_map raised_activity y
 
 -- ---- room
 

@@ -21,7 +21,7 @@ use Rattle.bts_timer.specs.Due.{is_unexpired}
 use Rattle.bts_tree.specs.Activities.{Activities, path_limit, child_limit, is_complete}
 use Rattle.bts_tree.specs.Modes.{is_mode_active}
 use Rattle.bts_tree.specs.Paths.{parent_of, number_of, is_child_of}
-use Rattle.bts_tree.specs.Processes.{Process, activities}
+use Rattle.bts_tree.specs.Processes.{Process, format_of, activities}
 use Rattle.bts_tree.specs.Repositories.{Processes, keys_of_processes}
 use Rattle.bts_tree.specs.declared.activity.Activity.{Activity}
 
@@ -109,24 +109,26 @@ pub record IsSoundTree (tree : Activities) : Type 0 where
 
 -- without a tree there are no containers, and with one the key was defined
 abbrev pub IsSoundUnder : Process → Option Activities → Type 0
-IsSoundUnder s None = s.containers ≡ []
+IsSoundUnder s None = s.containers.items ≡ []
 IsSoundUnder s (Some tree) = IsSoundTree tree × (1 ≤ s.generation)
 
 -- the paths of the activities that are ACTIVE
 abbrev pub active_in : Process → List ActivityPath
 active_in s = keys_of (filter (λ x. is_mode_active x.1.mode) (activities s))
 
--- a process of which exactly the activities of the open frames are ACTIVE
+-- a process in one format, of which exactly the activities of the open frames are ACTIVE
 pub record IsSoundInFrames (frames : List ActivityPath) (s : Process) : Type 0 where
   pub tree : IsSoundUnder s s.tree
   pub containers : IsPool s.containers
+  pub formats : AllByRecursion (λ x. x.1.containers.format ≡ format_of s) (activities s)
   pub active : IsTrue (list_all (λ p. list_any (same p) frames) (active_in s) && list_all (λ p. list_any (same p) (active_in s)) frames)
 
--- processes by rising key, each defined at least once, and none with an ACTIVE activity
+-- processes by rising key, each defined at least once, in their one format, and none with an ACTIVE activity
 pub record AreSound (repo : Processes) : Type 0 where
   pub keys_rise : IsStrictlySortedBy key_cmp (keys_of_processes repo)
-  pub defined : IsTrue (list_all (λ s. nat_le 1 s.generation) repo)
-  pub each : AllByRecursion (IsSoundInFrames []) repo
+  pub defined : IsTrue (list_all (λ s. nat_le 1 s.generation) repo.items)
+  pub formats : AllByRecursion (λ s. format_of s ≡ repo.format) repo.items
+  pub each : AllByRecursion (IsSoundInFrames []) repo.items
 
 -- ---- bounds
 
@@ -136,7 +138,7 @@ is_within g n s = nat_le s.generation g && list_all (λ x. nat_le x.1.pool.last 
 
 -- behind so many committed units no generation is above their number, and no last entry number above 512 times it
 abbrev pub bound_of_units : ℕ → Processes → Bool
-bound_of_units units = list_all (is_within units (512 * units))
+bound_of_units units repo = list_all (is_within units (512 * units)) repo.items
 
 -- every last entry number is below n
 abbrev pub numbers_below : ℕ → Process → Bool

@@ -2,8 +2,9 @@
 ghost use Rattle.std.specs.Prelude.{◌≡◌, ◌↔◌, IsTrue, IfOk, None, []};
 ghost use Rattle.bts_tree.specs.Activities as activities;
 ghost use Rattle.bts_tree.specs.Fields as fields;
+ghost use Rattle.bts_tree.specs.Repositories.{raised_activity};
 
-use bts_container::ContainerPool;
+use bts_container::{ContainerPool, Format};
 use bts_event::EventPool;
 use bts_names::{Abcode, Mode, Name16, NoMemory, ProgName, Status, Transid};
 use bts_timer::TimerPool;
@@ -33,15 +34,16 @@ pub struct Activity {
 
 impl Activity {
     /// A new activity: INITIAL and INCOMPLETE, with nothing in its pools. Without a completion event it is a root,
-    /// and told. No memory is taken yet.
+    /// and told. Its containers have the format of its process. No memory is taken yet.
     pub fn new(
         alloc: Global,
+        format: Format,
         name: Name16,
         transid: Transid,
         program: ProgName,
         completion: Option<Name16>,
     ) -> Self
-        ensures { result ≡ activities.new_activity name transid program completion }
+        ensures { result ≡ activities.new_activity format name transid program completion }
     {
         Activity {
             name,
@@ -55,16 +57,16 @@ impl Activity {
             told: completion.is_none(),
             pool: EventPool::new(alloc),
             timers: TimerPool::new(alloc),
-            containers: ContainerPool::new(alloc),
+            containers: ContainerPool::new(alloc, format),
             made: 0,
         }
     }
 
     /// A new root activity, DFHROOT.
-    pub fn new_root(alloc: Global, transid: Transid, program: ProgName) -> Self
-        ensures { result ≡ activities.new_root transid program }
+    pub fn new_root(alloc: Global, format: Format, transid: Transid, program: ProgName) -> Self
+        ensures { result ≡ activities.new_root format transid program }
     {
-        Activity::new(alloc, Name16::root(), transid, program, None)
+        Activity::new(alloc, format, Name16::root(), transid, program, None)
     }
 
     pub fn is_complete(&self) -> bool
@@ -111,6 +113,13 @@ impl Activity {
         } else {
             self.complete(Status::Forced, None, true);
         }
+    }
+
+    /// Puts its containers into the second format.
+    pub(crate) fn raise(&mut self)
+        ensures { self.new ≡ raised_activity self.old }
+    {
+        self.containers.raise();
     }
 
     /// An activity of the same fields. All of its pools are copied.

@@ -1,6 +1,8 @@
 // What is done to many slots at once.
 ghost use Rattle.std.specs.Prelude.{◌≡◌};
+ghost use Rattle.std.specs.Option.{option_map};
 ghost use Rattle.bts_tree.specs.Activities as activities;
+ghost use Rattle.bts_tree.specs.Repositories.{raised_activity};
 ghost use Rattle.bts_tree.specs.Slots as slots;
 
 use crate::Activity;
@@ -45,6 +47,30 @@ fn complete_one(
     } else if path.is_prefix_of(place) {
         activity.force();
     }
+}
+
+/// Puts each activity into the second format.
+pub(crate) fn raise_all(map: &mut BTreeMap<Path, Slot>)
+    ensures { map.new.entries ≡ slots.mapped slots.raised_slot map.old.entries }
+{
+    map.retain(|_, slot| {
+        raise_slot(slot);
+        true
+    });
+}
+
+fn raise_slot(slot: &mut Slot)
+    ensures { slot.new ≡ option_map raised_activity slot.old }
+{
+    if slot.is_filled() {
+        raise_one(slot.edit());
+    }
+}
+
+fn raise_one(activity: &mut Activity)
+    ensures { activity.new ≡ raised_activity activity.old }
+{
+    activity.raise();
 }
 
 /// Empties the slots below a path, and where `itself` is true its own.

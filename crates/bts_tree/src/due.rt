@@ -1,5 +1,6 @@
 // A walk over all processes for timers that are due.
 ghost use Rattle.std.specs.Prelude.{◌≡◌, [], Some, None};
+ghost use Rattle.std.specs.List.{flat_map};
 ghost use Rattle.std.specs.Option.{option_map, option_to_list};
 ghost use Rattle.bts_tree.specs.Keeping as keeping;
 ghost use Rattle.bts_tree.specs.Repositories as repo;
@@ -18,7 +19,7 @@ pub(crate) fn next_due(
     after: &Option<(Key, Path, Name16)>,
 ) -> Option<(Key, Path, Name16)>
     ensures { result ≡ repo.first_behind repo.timer_place_cmp after.now
-        (repo.due_in now (keeping.processes_of map.now.entries)) }
+        (flat_map (repo.due_of now) (keeping.processes_of map.now.entries)) }
 {
     for (key, slot) in map {
         if let Some(place) = due_in_slot(key, slot, now, after) {

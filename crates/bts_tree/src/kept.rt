@@ -1,6 +1,8 @@
 // What a repository holds under a key.
 ghost use Rattle.std.specs.Prelude.{◌≡◌, ◌↔◌, IsTrue, IfOk, None, Some};
+ghost use Rattle.std.specs.Option.{option_map};
 ghost use Rattle.bts_tree.specs.Keeping as keeping;
+ghost use Rattle.bts_tree.specs.Repositories.{raised_tree};
 ghost use Rattle.bts_tree.specs.Scopes.{held_whole};
 
 use crate::{Scope, Tree};
@@ -27,6 +29,14 @@ impl Kept {
             tree,
             containers,
         })
+    }
+
+    /// Puts the process into the second format. No memory is taken.
+    pub fn raise(&mut self)
+        ensures { self.new ≡ keeping.raised_kept self.old }
+    {
+        self.containers.raise();
+        raise_tree(&mut self.tree);
     }
 
     pub fn into_scope(self, alloc: Global, key: Key) -> Scope
@@ -69,6 +79,14 @@ pub(crate) fn kept_of(scope: Scope) -> Kept
         generation,
         tree,
         containers,
+    }
+}
+
+fn raise_tree(tree: &mut Option<Tree>)
+    ensures { tree.new ≡ option_map raised_tree tree.old }
+{
+    if let Some(tree) = tree {
+        tree.raise();
     }
 }
 

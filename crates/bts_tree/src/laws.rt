@@ -1,6 +1,7 @@
 // What holds of the definitions that contracts cite. The functions do nothing.
 ghost use Rattle.std.specs.Prelude.{◌≡◌, ℕ, Bool, List, [], length, Option, Some, None, true, false};
 ghost use Rattle.std.specs.List.Sorted.{IsStrictlySortedBy};
+ghost use Rattle.bts_container.specs.declared.format.Format.{Format};
 ghost use Rattle.bts_names.specs.Names.{Name};
 ghost use Rattle.bts_names.specs.declared.key.Key.{Key};
 ghost use Rattle.bts_names.specs.declared.state.Status.TheVariants as status;
@@ -8,7 +9,7 @@ ghost use Rattle.bts_tree.specs.Activities.{new_root, is_complete, completed, fo
 ghost use Rattle.bts_tree.specs.Modes.{finishes, abends, is_forced};
 ghost use Rattle.bts_tree.specs.declared.activity.Activity.{Activity};
 ghost use Rattle.bts_tree.specs.Processes.{no_process, planted};
-ghost use Rattle.bts_tree.specs.Repositories.{Processes, Place, TimerPlace, place_cmp, timer_place_cmp, ready_in, untold_in, due_in, first_behind, IsLeastBehind, HasNoneBehind};
+ghost use Rattle.bts_tree.specs.Repositories.{Processes, Place, no_processes, raised_all, TimerPlace, place_cmp, timer_place_cmp, ready_in, untold_in, due_in, first_behind, IsLeastBehind, HasNoneBehind};
 ghost use Rattle.bts_tree.specs.Scopes.{HeldProcess, AreSteps, gone_back, last_held, marked};
 ghost use Rattle.bts_tree.specs.Soundness.{AreSound, IsSoundInFrames};
 
@@ -42,11 +43,16 @@ pub fn the_first_behind_is_the_least()
         → first_behind timer_place_cmp after xs ≡ None → HasNoneBehind timer_place_cmp after xs }
 {}
 
-/// A process that is defined for the first time is sound, and so is the repository that holds none.
+/// In each format a process that is defined for the first time is sound, and so is the repository that holds none.
 pub fn what_is_new_is_sound()
-    ensures process { (key : Key) (transid program : Name)
-        → IsSoundInFrames [] (planted (new_root transid program) (no_process key)) }
-    ensures repository { AreSound [] }
+    ensures process { (f : Format) (key : Key) (transid program : Name)
+        → IsSoundInFrames [] (planted (new_root f transid program) (no_process f key)) }
+    ensures repository { (f : Format) → AreSound (no_processes f) }
+{}
+
+/// A sound repository stays sound where it is put into the second format.
+pub fn raised_processes_are_sound()
+    ensures { (repo : Processes) → AreSound repo → AreSound (raised_all repo) }
 {}
 
 /// Completion changes modes as their table says: RETURN makes an activity COMPLETE NORMAL, an abend of its frame

@@ -4,6 +4,7 @@
 mod activity;
 mod changes;
 mod due;
+mod index;
 mod kept;
 mod laws;
 mod listing;
@@ -16,14 +17,15 @@ mod saving;
 mod scope;
 mod slot;
 mod slot_maps;
+mod stored;
 mod tree;
 mod undoing;
 mod walk;
 
 pub use activity::Activity;
 pub use laws::{
-    back_to_gives_what_was_marked, completion_follows_the_modes, the_first_behind_is_the_least,
-    what_is_enabled_stands_in_order, what_is_new_is_sound,
+    back_to_gives_what_was_marked, completion_follows_the_modes, raised_processes_are_sound,
+    the_first_behind_is_the_least, what_is_enabled_stands_in_order, what_is_new_is_sound,
 };
 pub use mark::{Mark, Marks};
 pub use opening::Opening;

@@ -1,5 +1,6 @@
 // Rows of all activities.
 ghost use Rattle.std.specs.Prelude.{◌≡◌, ◌++◌, IfOk, OnOk, map};
+ghost use Rattle.std.specs.List.{flat_map};
 ghost use Rattle.bts_tree.specs.Keeping as keeping;
 ghost use Rattle.bts_tree.specs.Repositories as repo;
 ghost use Rattle.bts_tree.specs.Slots.{filled};
@@ -15,7 +16,7 @@ pub(crate) fn rows_of_all(
     alloc: Global,
     map: &BTreeMap<Key, Option<Kept>>,
 ) -> Result<Rows, NoMemory>
-    ensures { IfOk result (λ rows. rows ≡ repo.rows (keeping.processes_of map.now.entries)) }
+    ensures { IfOk result (λ rows. rows ≡ flat_map repo.rows_of (keeping.processes_of map.now.entries)) }
 {
     let mut rows = Rows::new(alloc);
     for (key, slot) in map {

@@ -3,6 +3,7 @@ use crate::tests::{
     adds, below, completes, grows, key_named, plants, puts, puts_container, removes, waits,
 };
 use crate::{Repository, Scope};
+use bts_container::Format;
 use bts_names::{NoMemory, Path};
 use std::alloc::Global;
 use std::test::Fail;
@@ -147,7 +148,7 @@ fn follows(scope: &mut Scope, shots: &Vec<Repository>, order: [(u64, bool); 3]) 
 fn marks_are_gone_back_to_and_kept(rt: HostRuntime) -> Result<(), Fail> {
     let alloc = rt.alloc();
     let key = key_named("P").ok_or(NoMemory)?;
-    let mut scope = Scope::undefined(alloc, key);
+    let mut scope = Scope::undefined(alloc, Format::One, key);
     let shots = marked(alloc, &mut scope)?;
     assert!(rt; shots.is_some());
     let shots = shots.ok_or(NoMemory)?;
@@ -163,7 +164,7 @@ fn marks_are_gone_back_to_and_kept(rt: HostRuntime) -> Result<(), Fail> {
 fn all_that_is_kept_stays(rt: HostRuntime) -> Result<(), Fail> {
     let alloc = rt.alloc();
     let key = key_named("P").ok_or(NoMemory)?;
-    let mut scope = Scope::undefined(alloc, key);
+    let mut scope = Scope::undefined(alloc, Format::One, key);
     let shots = marked(alloc, &mut scope)?;
     assert!(rt; shots.is_some());
     let shots = shots.ok_or(NoMemory)?;

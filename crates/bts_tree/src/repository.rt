@@ -1,65 +1,107 @@
 // All processes.
 ghost use Rattle.std.specs.Prelude.{◌≡◌, ◌↔◌, [], IsTrue, IfOk, OnOk, OnErr, IfSome, is_some, Some, None, true, map};
 ghost use Rattle.std.specs.List.Sorted.{IsStrictlySortedBy};
-ghost use Rattle.std.specs.Map.{keys_of, lookup, set_value};
 ghost use Rattle.std.specs.Option.{option_copied};
+ghost use Rattle.bts_container.specs.Formats.{number_of};
 ghost use Rattle.bts_names.specs.Keys.{key_cmp};
+ghost use Rattle.bts_names.specs.declared.key.Key.{Key};
+ghost use Rattle.bts_tree.specs.Indexes.{forgotten, has_key, is_awake, is_still_kept};
 ghost use Rattle.bts_tree.specs.Keeping as keeping;
 ghost use Rattle.bts_tree.specs.Processes as process;
 ghost use Rattle.bts_tree.specs.Repositories as repo;
 
 use crate::due::next_due;
-use crate::kept::{Kept, kept_of, slot_of};
+use crate::index::{awake_keys, forget_all_idle, has_work};
+use crate::kept::Kept;
 use crate::listing::rows_of_all;
-use crate::walk::{Wanted, next_key, next_place};
+use crate::stored::{look_up, make_room, put, raise_all, slots_of};
+use crate::walk::{Wanted, next_among, next_key, next_place};
 use crate::{Activity, Scope, Tree};
-use bts_container::ContainerPool;
+use bts_container::{ContainerPool, Format};
 use bts_names::{Key, Moment, Name16, NoMemory, Path, Rows, map_of};
 use std::alloc::Global;
-use std::collections::BTreeMap;
+use std::collections::{BTreeMap, BTreeSet};
 use std::marker::Model;
 
-/// All processes by key. Contracts see the list of those that were ever defined, by rising key, and the keys for
-/// which there is room.
+/// All processes by key, in one format, and an index of those that have an activation to run. Contracts see the format
+/// and the list of the processes that were ever defined, by rising key, and the keys for which there is room: those of
+/// the index. Every process with an activation to run has its key there; a key stays there, whatever is put under it,
+/// until it is given up.
 #[derive(Drop)]
 pub struct Repository {
+    format: Format,
     map: BTreeMap<Key, Option<Kept>>,
+    awake: BTreeSet<Key>,
 }
 
 impl Model for Repository {
+    ghost use Rattle.bts_tree.specs.Indexes.{IsIndex};
     ghost use Rattle.bts_tree.specs.Keeping.{stored_in};
     ghost use Rattle.bts_tree.specs.Repositories.{Stored};
 
     ghost Value = { Stored };
 
-    ghost view = { λ r. stored_in r.map.entries };
+    ghost view = { λ r. stored_in r.format r.awake.keys r.map.entries };
+
+    ghost invariant = { λ r. IsIndex r.format r.awake.keys r.map.entries };
 }
 
 impl Repository {
-    /// No process, and no memory taken yet.
+    /// No process, in the first format, and no memory taken yet.
     pub fn empty(alloc: Global) -> Self
-        ensures { result ≡ repo.stored_of [] }
+        ensures { result ≡ repo.nothing_stored }
     {
         Repository {
+            format: Format::One,
             map: BTreeMap::new(alloc),
+            awake: BTreeSet::new(alloc),
         }
     }
 
-    /// A repository of these processes, which stand by rising key.
-    pub fn from_scopes(alloc: Global, scopes: Vec<Scope>) -> Result<Self, NoMemory>
+    /// A repository of these processes, which stand by rising key, in this format. The index keeps the keys of those
+    /// that have an activation to run, and no other. The time grows with the number of activities.
+    pub fn from_scopes(alloc: Global, format: Format, scopes: Vec<Scope>) -> Result<Self, NoMemory>
         requires { IsStrictlySortedBy key_cmp (map (λ h. h.process.key) scopes.items) }
-        ensures { IfOk result (λ r. r ≡ repo.stored_of (map (λ h. h.process) scopes.items)) }
+        ensures processes { IfOk result (λ r. r.processes
+            ≡ record { format = format; items = map (λ h. h.process) scopes.items }) }
+        ensures keys { IfOk result (λ r. (key : Key) → has_key key r.room ≡ is_awake key r.processes) }
     {
         let slots = slots_of(alloc, scopes)?;
         let map = map_of(alloc, slots)?;
-        Ok(Repository { map })
+        let awake = awake_keys(alloc, &map)?;
+        Ok(Repository { format, map, awake })
+    }
+
+    /// The number of the format, 1 or 2.
+    pub fn format(&self) -> u8
+        ensures { result ≡ number_of self.now.processes.format }
+    {
+        self.format.number()
+    }
+
+    /// Puts all processes into the second format. The time grows with the number of activities; no memory is taken.
+    pub fn raise(&mut self)
+        ensures { self.new ≡ record self.old { processes = repo.raised_all self.old.processes } }
+    {
+        // So it is known here that the keys rise.
+        let _ = self.map.len();
+        raise_all(&mut self.map);
+        self.format = Format::Two;
+    }
+
+    fn kept(&self, key: &Key) -> Option<&Kept>
+        ensures there { is_some result ≡ repo.is_defined key.now self.now.processes }
+        ensures process { keeping.process_or_none self.now.processes.format key.now (option_copied result)
+            ≡ repo.process_at key.now self.now.processes }
+    {
+        look_up(&self.map, key)
     }
 
     /// How often the key was defined, found in logarithmic time.
     pub fn generation(&self, key: &Key) -> u64
         ensures { result ≡ (repo.process_at key.now self.now.processes).generation }
     {
-        match kept(&self.map, key) {
+        match self.kept(key) {
             Some(kept) => kept.generation,
             None => 0,
         }
@@ -76,7 +118,7 @@ impl Repository {
     pub fn tree(&self, key: &Key) -> Option<&Tree>
         ensures { option_copied result ≡ (repo.process_at key.now self.now.processes).tree }
     {
-        kept(&self.map, key)?.tree.as_ref()
+        self.kept(key)?.tree.as_ref()
     }
 
     /// The containers of a process; None where the key was never defined.
@@ -85,7 +127,7 @@ impl Repository {
         ensures value { IfSome result
             (λ c. c.now ≡ (repo.process_at key.now self.now.processes).containers) }
     {
-        match kept(&self.map, key) {
+        match self.kept(key) {
             Some(kept) => Some(&kept.containers),
             None => None,
         }
@@ -110,12 +152,15 @@ impl Repository {
         }
     }
 
-    /// The least activity, by key and path, that stands behind `after` and for which an activation is enabled. The
-    /// time grows with the number of activities of the repository.
+    /// The least activity, by key and path, that stands behind `after` and for which an activation is enabled. Only
+    /// processes whose keys are kept are looked at, from the key of `after` on: each costs a look-up and a walk over
+    /// its activities, up to the first that is enabled and stands behind.
     pub fn next_ready(&self, after: Option<(Key, Path)>) -> Option<(Key, Path)>
         ensures { result ≡ repo.first_behind repo.place_cmp after (repo.ready_in self.now.processes) }
     {
-        next_place(&self.map, Wanted::Ready, &after)
+        // So it is known here that the keys rise.
+        let _ = (self.awake.len(), self.map.len());
+        next_among(&self.awake, &self.map, Wanted::Ready, &after)
     }
 
     /// The least activity, by key and path, that stands behind `after`, is COMPLETE and isn't told. The time grows
@@ -146,12 +191,12 @@ impl Repository {
         requires { path.now ≡ [] }
         ensures { IfOk result (λ scope. scope ≡ repo.held_at key.now self.now.processes) }
     {
-        match kept(&self.map, key) {
+        match self.kept(key) {
             Some(kept) => {
                 let copy = kept.copy(alloc)?;
                 Ok(copy.into_scope(alloc, *key))
             }
-            None => Ok(Scope::undefined(alloc, *key)),
+            None => Ok(Scope::undefined(alloc, self.format, *key)),
         }
     }
 
@@ -160,24 +205,28 @@ impl Repository {
         ensures { IsTrue result
             ↔ (repo.process_at scope.now.process.key self.now.processes ≡ scope.now.process) }
     {
-        match kept(&self.map, &scope.key()) {
+        match self.kept(&scope.key()) {
             Some(kept) => kept.same(scope),
-            None => scope.is_undefined(),
+            None => scope.is_undefined(self.format),
         }
     }
 
-    /// Makes room for a process under a key, so that it can be put there without memory. The processes stay as
-    /// they are.
+    /// Makes room for a process under a key, so that it can be put there without memory. The processes stay as they
+    /// are. Logarithmic time.
     pub fn reserve_for(&mut self, key: &Key) -> Result<(), NoMemory>
         ensures ok { OnOk result (self.new ≡ repo.with_room key.now self.old) }
         ensures room { OnOk result (repo.has_room key.now self.new ≡ true) }
         ensures err { OnErr result (self.new ≡ self.old) }
     {
-        make_room(&mut self.map, key)
+        make_room(&mut self.map, key)?;
+        match self.awake.insert(*key) {
+            Ok(_) => Ok(()),
+            Err(_) => Err(NoMemory),
+        }
     }
 
-    /// Puts a process in place of what stands under its key; one that was never defined leaves none there. There
-    /// must be room for the key. Logarithmic time, beside that for letting go of what stood there.
+    /// Puts a process in place of what stands under its key; one that was never defined leaves none there. There must
+    /// be room for the key. Logarithmic time, beside that for letting go of what stood there.
     pub fn put_scope(&mut self, scope: Scope)
         requires { repo.has_room scope.process.key self.old ≡ true }
         ensures { self.new ≡ repo.put_held scope self.old }
@@ -185,71 +234,34 @@ impl Repository {
         put(&mut self.map, scope);
     }
 
+    /// Gives up the room for a key, if its process has no activation to run. The processes stay as they are. The time
+    /// is that of a walk over the activities of that process, and of a look-up.
+    pub fn forget_idle(&mut self, key: &Key)
+        ensures done { self.new ≡ forgotten key.now self.old }
+        ensures keys { (k : Key) → has_key k self.new.room ≡ is_still_kept key.now self.old k }
+    {
+        // So it is known here that the keys rise.
+        let _ = self.map.len();
+        if !has_work(&self.map, key) {
+            self.awake.remove(key);
+        }
+    }
+
+    /// Gives up the room for each key whose process has no activation to run. The processes stay as they are. The time
+    /// is that of `forget_idle` for each key that is kept; no memory is taken.
+    pub fn forget_all_idle(&mut self)
+        ensures processes { self.new.processes ≡ self.old.processes }
+        ensures keys { (key : Key) → has_key key self.new.room ≡ is_awake key self.new.processes }
+    {
+        // So it is known here that the keys rise.
+        let _ = self.map.len();
+        forget_all_idle(&mut self.awake, &self.map);
+    }
+
     /// A row for each activity, in order of keys and paths.
     pub fn rows(&self, alloc: Global) -> Result<Rows, NoMemory>
         ensures { IfOk result (λ rows. rows ≡ repo.rows self.now.processes) }
     {
         rows_of_all(alloc, &self.map)
-    }
-}
-
-fn slots_of(alloc: Global, scopes: Vec<Scope>) -> Result<Vec<(Key, Option<Kept>)>, NoMemory>
-    ensures { IfOk result (λ slots. slots.items ≡ keeping.slots_of (map (λ h. h.process) scopes.items)) }
-{
-    let mut slots = Vec::new(alloc);
-    let mut rest = scopes.into_iter();
-    while let Some(scope) = rest.next() {
-        let key = scope.key();
-        slots.push((key, Some(kept_of(scope))))?;
-    }
-    Ok(slots)
-}
-
-fn kept<'a>(map: &'a BTreeMap<Key, Option<Kept>>, key: &Key) -> Option<&'a Kept>
-    ensures there { is_some result ≡ repo.is_defined key.now (keeping.processes_of map.now.entries) }
-    ensures process { keeping.process_or_none key.now (option_copied result)
-        ≡ repo.process_at key.now (keeping.processes_of map.now.entries) }
-{
-    // So it is known here that the keys rise.
-    let _ = map.len();
-    match map.get(key) {
-        Some(slot) => slot.as_ref(),
-        None => None,
-    }
-}
-
-fn make_room(map: &mut BTreeMap<Key, Option<Kept>>, key: &Key) -> Result<(), NoMemory>
-    ensures ok { OnOk result
-        (keeping.stored_in map.new.entries ≡ repo.with_room key.now (keeping.stored_in map.old.entries)) }
-    ensures err { OnErr result (map.new.entries ≡ map.old.entries) }
-{
-    // So it is known here that the keys rise.
-    let _ = map.len();
-    if map.contains_key(key) {
-        return Ok(());
-    }
-    match map.insert(*key, None) {
-        Ok(_) => Ok(()),
-        Err(_) => Err(NoMemory),
-    }
-}
-
-fn put(map: &mut BTreeMap<Key, Option<Kept>>, scope: Scope)
-    requires { repo.has_room scope.process.key (keeping.stored_in map.old.entries) ≡ true }
-    ensures { keeping.stored_in map.new.entries
-        ≡ repo.put_held scope (keeping.stored_in map.old.entries) }
-{
-    let key = scope.key();
-    let slot = slot_of(scope);
-    write(map, &key, slot);
-}
-
-fn write(map: &mut BTreeMap<Key, Option<Kept>>, key: &Key, slot: Option<Kept>)
-    requires { is_some (lookup (repo.same_key key.now) map.old.entries) ≡ true }
-    ensures rising { IsStrictlySortedBy key_cmp (keys_of map.old.entries) }
-    ensures entries { map.new.entries ≡ set_value (repo.same_key key.now) map.old.entries slot }
-{
-    if let Some(place) = map.get_mut(key) {
-        *place = slot;
     }
 }

@@ -7,6 +7,7 @@ ghost use Rattle.std.specs.Option.{option_copied, option_map, unwrap_or};
 ghost use Rattle.std.specs.Ordering.{nat_cmp};
 ghost use Rattle.std.specs.Cmp.Lexicographic.{slice_cmp};
 ghost use Rattle.bts_names.specs.Names.{same};
+ghost use Rattle.bts_container.specs.Containers.{no_containers};
 ghost use Rattle.bts_tree.specs.Paths.{parent_of};
 ghost use Rattle.bts_tree.specs.Processes as process;
 ghost use Rattle.bts_tree.specs.Lending.{LendsScopeActivity, LendsContainers};
@@ -22,7 +23,7 @@ use crate::slot_maps::{child_in, copied_slots, count_filled, is_bare, read_slot}
 use crate::undoing::undo_to;
 use crate::{Activity, Slot, Tree};
 use arrayvec::ArrayVec;
-use bts_container::ContainerPool;
+use bts_container::{ContainerPool, Format};
 use bts_names::{Abcode, Key, Name16, NoMemory, Path, Status};
 use std::alloc::Global;
 use std::collections::BTreeMap;
@@ -54,11 +55,11 @@ impl Model for Scope {
 }
 
 impl Scope {
-    /// A process whose key was never defined.
-    pub fn undefined(alloc: Global, key: Key) -> Self
-        ensures { result ≡ scope.held_whole (process.no_process key) }
+    /// A process whose key was never defined, in a repository of this format.
+    pub fn undefined(alloc: Global, format: Format, key: Key) -> Self
+        ensures { result ≡ scope.held_whole (process.no_process format key) }
     {
-        Scope::from_parts(alloc, key, 0, None, ContainerPool::new(alloc))
+        Scope::from_parts(alloc, key, 0, None, ContainerPool::new(alloc, format))
     }
 
     /// A process of these parts, held whole.
@@ -140,6 +141,13 @@ impl Scope {
         self.key
     }
 
+    /// The format of the process.
+    pub fn format(&self) -> Format
+        ensures { result ≡ process.format_of self.now.process }
+    {
+        self.own.containers.format()
+    }
+
     /// How often the key was defined.
     pub fn generation(&self) -> u64
         ensures { result ≡ self.now.process.generation }
@@ -192,11 +200,11 @@ impl Scope {
         child_in(&self.slots, path, name)
     }
 
-    /// Whether it is a process whose key was never defined.
-    pub(crate) fn is_undefined(&self) -> bool
-        ensures { IsTrue result ↔ (process.no_process self.now.process.key ≡ self.now.process) }
+    /// Whether it is a process whose key was never defined, in a repository of this format.
+    pub(crate) fn is_undefined(&self, format: Format) -> bool
+        ensures { IsTrue result ↔ (process.no_process format self.now.process.key ≡ self.now.process) }
     {
-        self.own.generation == 0 && !self.own.planted && self.own.containers.is_empty()
+        self.own.generation == 0 && !self.own.planted && has_nothing(&self.own.containers, format)
     }
 
     /// Whether this is its tree. The time grows with what stands there.
@@ -441,6 +449,12 @@ fn tree_of(planted: bool, slots: BTreeMap<Path, Slot>) -> Option<Tree>
         return None;
     }
     Some(Tree::of_slots(slots))
+}
+
+fn has_nothing(containers: &ContainerPool, format: Format) -> bool
+    ensures { IsTrue result ↔ (no_containers format ≡ containers.now) }
+{
+    containers.format() == format && containers.is_empty()
 }
 
 fn is_whole(path: &Path, itself: bool) -> bool

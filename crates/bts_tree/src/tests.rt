@@ -1,6 +1,6 @@
 // What no clause says: that the calls succeed where there is memory.
-use crate::{Activity, Repository, Scope, Tree};
-use bts_container::ContainerPool;
+use crate::{Activity, Repository, Scope, Tree, raised_processes_are_sound};
+use bts_container::{ContainerPool, Format};
 use bts_names::{
     Key, Moment, Name16, NoMemory, Path, ProcName, ProcType, ProgName, Status, Transid,
 };
@@ -25,7 +25,14 @@ pub(crate) fn below(path: Path, number: u32) -> Path {
 fn activity_named(alloc: Global, text: &str) -> Option<Activity> {
     let transid = Transid::read(b"T".as_slice()).ok()?;
     let program = ProgName::read(b"P".as_slice()).ok()?;
-    Some(Activity::new(alloc, named(text), transid, program, Some(named("E"))))
+    Some(Activity::new(
+        alloc,
+        Format::One,
+        named(text),
+        transid,
+        program,
+        Some(named("E")),
+    ))
 }
 
 pub(crate) fn plants(alloc: Global, scope: &mut Scope) -> bool {
@@ -38,7 +45,7 @@ pub(crate) fn plants(alloc: Global, scope: &mut Scope) -> bool {
     if scope.has_tree() || scope.generation() > 1000 {
         return false;
     }
-    let root = Activity::new_root(alloc, transid, program);
+    let root = Activity::new_root(alloc, scope.format(), transid, program);
     scope.plant(alloc, root).is_ok()
 }
 
@@ -114,7 +121,7 @@ pub(crate) fn grows(alloc: Global, scope: &mut Scope) -> bool {
 fn a_process_grows_and_shrinks(rt: HostRuntime) -> Result<(), Fail> {
     let alloc = rt.alloc();
     let key = key_named("P").ok_or(NoMemory)?;
-    let mut scope = Scope::undefined(alloc, key);
+    let mut scope = Scope::undefined(alloc, Format::One, key);
     assert!(rt; grows(alloc, &mut scope));
     assert_eq!(rt; scope.generation(), 1);
     assert_eq!(rt; scope.count(), 4);
@@ -148,7 +155,7 @@ fn completes_below(scope: &Scope) -> bool {
 fn children_are_found_and_complete(rt: HostRuntime) -> Result<(), Fail> {
     let alloc = rt.alloc();
     let key = key_named("P").ok_or(NoMemory)?;
-    let mut scope = Scope::undefined(alloc, key);
+    let mut scope = Scope::undefined(alloc, Format::One, key);
     assert!(rt; grows(alloc, &mut scope));
     assert!(rt; knows_its_children(&scope));
     let first = below(Path::root(), 1);
@@ -181,7 +188,7 @@ fn reads_its_tree(alloc: Global, repo: &Repository, key: &Key) -> bool {
 fn a_tree_is_read_and_copied(rt: HostRuntime) -> Result<(), Fail> {
     let alloc = rt.alloc();
     let key = key_named("P").ok_or(NoMemory)?;
-    let mut scope = Scope::undefined(alloc, key);
+    let mut scope = Scope::undefined(alloc, Format::One, key);
     assert!(rt; grows(alloc, &mut scope));
     scope.facts();
     let mut repo = Repository::empty(alloc);
@@ -204,7 +211,7 @@ pub(crate) fn puts_container(alloc: Global, scope: &mut Scope) -> bool {
 fn copies_are_the_same_until_one_changes(rt: HostRuntime) -> Result<(), Fail> {
     let alloc = rt.alloc();
     let key = key_named("P").ok_or(NoMemory)?;
-    let mut scope = Scope::undefined(alloc, key);
+    let mut scope = Scope::undefined(alloc, Format::One, key);
     assert!(rt; grows(alloc, &mut scope));
     let mut repo = Repository::empty(alloc);
     assert!(rt; puts(&mut repo, scope.copy(alloc)?));
@@ -222,7 +229,7 @@ fn a_repository_tells_what_it_holds(rt: HostRuntime) -> Result<(), Fail> {
     let alloc = rt.alloc();
     let key = key_named("P").ok_or(NoMemory)?;
     let root = Path::root();
-    let mut scope = Scope::undefined(alloc, key);
+    let mut scope = Scope::undefined(alloc, Format::One, key);
     assert!(rt; grows(alloc, &mut scope));
     assert!(rt; waits(&mut scope, &root));
     let mut repo = Repository::empty(alloc);
@@ -244,8 +251,8 @@ fn fills(alloc: Global, repo: &mut Repository) -> bool {
     };
     let root = Path::root();
     let second = below(root, 2);
-    let mut first = Scope::undefined(alloc, p);
-    let mut last = Scope::undefined(alloc, q);
+    let mut first = Scope::undefined(alloc, Format::One, p);
+    let mut last = Scope::undefined(alloc, Format::One, q);
     let set = grows(alloc, &mut first)
         && completes(&mut first, &below(root, 1))
         && waits(&mut first, &second)
@@ -306,7 +313,13 @@ fn of_parts(alloc: Global, key: Key) -> Option<Scope> {
     let mut activities = Vec::new(alloc);
     activities.push((Path::root(), activity)).ok()?;
     let tree = Tree::from_parts(alloc, activities).ok()?;
-    Some(Scope::from_parts(alloc, key, 7, Some(tree), ContainerPool::new(alloc)))
+    Some(Scope::from_parts(
+        alloc,
+        key,
+        7,
+        Some(tree),
+        ContainerPool::new(alloc, Format::One),
+    ))
 }
 
 #[test]
@@ -316,8 +329,51 @@ fn a_repository_is_made_of_its_parts(rt: HostRuntime) -> Result<(), Fail> {
     let scope = of_parts(alloc, key).ok_or(NoMemory)?;
     let mut scopes = Vec::new(alloc);
     scopes.push(scope)?;
-    let repo = Repository::from_scopes(alloc, scopes)?;
+    let repo = Repository::from_scopes(alloc, Format::One, scopes)?;
     assert_eq!(rt; repo.generation(&key), 7);
     assert!(rt; repo.activity(&key, &Path::root()).is_some());
+    Ok(())
+}
+
+#[test]
+fn idle_keys_are_given_up(rt: HostRuntime) -> Result<(), Fail> {
+    let alloc = rt.alloc();
+    let key = key_named("P").ok_or(NoMemory)?;
+    let mut repo = Repository::empty(alloc);
+    repo.reserve_for(&key)?;
+    repo.put_scope(Scope::undefined(alloc, Format::One, key));
+    repo.forget_idle(&key);
+    assert_eq!(rt; repo.generation(&key), 0);
+    assert!(rt; fills(alloc, &mut repo));
+    repo.forget_all_idle();
+    assert_eq!(rt; repo.next_ready(None), place("P", 2));
+    Ok(())
+}
+
+/// Whether the process and its activity at a path are in the second format.
+fn is_raised(repo: &Repository, alloc: Global, key: &Key, path: &Path) -> bool {
+    let Ok(scope) = repo.scope(alloc, key, &Path::root()) else {
+        return false;
+    };
+    let Some(activity) = repo.activity(key, path) else {
+        return false;
+    };
+    repo.same(&scope)
+        && scope.format() == Format::Two
+        && activity.containers.format() == Format::Two
+}
+
+#[test]
+fn a_repository_is_raised(rt: HostRuntime) -> Result<(), Fail> {
+    let alloc = rt.alloc();
+    let key = key_named("P").ok_or(NoMemory)?;
+    let mut repo = Repository::empty(alloc);
+    assert!(rt; fills(alloc, &mut repo));
+    assert_eq!(rt; repo.format(), 1);
+    repo.raise();
+    raised_processes_are_sound();
+    assert_eq!(rt; repo.format(), 2);
+    assert!(rt; is_raised(&repo, alloc, &key, &below(Path::root(), 2)));
+    assert_eq!(rt; repo.next_ready(place("P", 2)), place("Q", 0));
     Ok(())
 }

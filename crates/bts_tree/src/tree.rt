@@ -7,9 +7,11 @@ ghost use Rattle.std.specs.Ordering.{nat_cmp};
 ghost use Rattle.std.specs.Cmp.Lexicographic.{slice_cmp};
 ghost use Rattle.bts_names.specs.Named.{lookup};
 ghost use Rattle.bts_tree.specs.Activities as activities;
+ghost use Rattle.bts_tree.specs.Repositories.{raised_tree};
 ghost use Rattle.bts_tree.specs.Slots.{filled};
 
 use crate::Activity;
+use crate::changes::raise_all;
 use crate::slot::Slot;
 use crate::slot_maps::{boxed_all, child_in, copied_slots, read_slot, same_maps, tidy};
 use bts_names::{Name16, NoMemory, Path, map_of};
@@ -104,6 +106,13 @@ impl Tree {
             ≡ activities.child_in path.now name.now self.now }
     {
         child_in(&self.map, path, name)
+    }
+
+    /// Puts all activities into the second format. No memory is taken.
+    pub(crate) fn raise(&mut self)
+        ensures { self.new ≡ raised_tree self.old }
+    {
+        raise_all(&mut self.map);
     }
 
     /// A tree of the same activities.

@@ -20,8 +20,8 @@ use Rattle.bts_rows.specs.Bounds.{raised_by}
 use Rattle.bts_rows.proofs.Bounds.{within_more}
 use Rattle.bts_rows.proofs.Acquiring.{raised_once}
 use Rattle.bts_rows.proofs.Repositories.{put_all, sound_at, within_at}
-use Rattle.bts_tree.specs.Processes.{Process}
-use Rattle.bts_tree.specs.Repositories.{Processes, process_at, put, same_key}
+use Rattle.bts_tree.specs.Processes.{Process, format_of, no_process}
+use Rattle.bts_tree.specs.Repositories.{Processes, found_or, process_at, put, same_key}
 use Rattle.bts_tree.specs.Soundness.{AreSound, IsSoundInFrames, is_within}
 use Rattle.bts_unit.specs.Calls.{commands_of, made, run, unit_behind}
 use Rattle.bts_unit.specs.Frames.{UnitOfWork, path_of, start}
@@ -31,7 +31,7 @@ use Rattle.bts_unit.specs.Refusals.{IsOtherCall, IsToldOtherwise, calls_given, i
 use Rattle.bts_unit.specs.Replays.{CanRepeat}
 use Rattle.bts_unit.specs.Soundness.{IsSoundUnit, IsSoundWithin, definitions_by}
 use Rattle.bts_unit.proofs.AtEnd.{frames_gone, stopping, stops}
-use Rattle.bts_unit.proofs.BoundedUnits.{AreAsked, abended_by, any, in_frames, key_rises, left_by_abend, nothing, nothing_rises, of_key, within, within_rises}
+use Rattle.bts_unit.proofs.BoundedUnits.{AreAsked, abended_by, any, format_rises, in_frames, key_rises, left_by_abend, nothing, nothing_rises, of_format, of_key, within, within_rises}
 use Rattle.bts_unit.proofs.Opening.{fit_behind_all, made_all}
 use Rattle.bts_unit.proofs.Rising.{Rises}
 
@@ -152,6 +152,10 @@ module _ (e : Ended) (s : Process) (may : may_begin e.unit s ≡ true) (sound : 
   pub left_key : (finished e s).now.process.key ≡ s.key
   left_key = of_own_key.1
 
+  -- and so is its format
+  pub left_format : format_of (finished e s).now.process ≡ format_of s
+  left_format = (left_sound (of_format (format_of s)) any (format_rises (format_of s)) 0 e s may sound given (λ c. tt) refl r).1
+
   -- ---- how far its numbers rise
 
   module _ (g n : ℕ) (w : is_within g n s ≡ true) where
@@ -177,13 +181,16 @@ module _ (e : Ended) (s : Process) (may : may_begin e.unit s ≡ true) (sound : 
 
 -- ---- the process of a unit
 
-pub key_there : (key : Key) (repo : Processes) → (process_at key repo).key ≡ key
-key_there key [] = refl
-key_there key (s ∷ repo) = by (same_key key s.key) refl (key_there key repo)
+found_key : (other : Process) (key : Key) (ss : List Process) → other.key ≡ key → (found_or other key ss).key ≡ key
+found_key other key [] h = h
+found_key other key (s ∷ ss) h = by (same_key key s.key) refl (found_key other key ss h)
   where
-    by : (b : Bool) → same_key key s.key ≡ b → (process_at key repo).key ≡ key → (cond b s (process_at key repo)).key ≡ key
+    by : (b : Bool) → same_key key s.key ≡ b → (found_or other key ss).key ≡ key → (cond b s (found_or other key ss)).key ≡ key
     by true e i = sym (keys_exact key s.key e)
     by false e i = i
+
+pub key_there : (key : Key) (repo : Processes) → (process_at key repo).key ≡ key
+key_there key repo = found_key (no_process repo.format key) key repo.items refl
 
 pub process_is : (kind : UnitKind) (key : Key) (repo : Processes) → key_of kind ≡ Some key → process_of kind repo ≡ Some (process_at key repo)
 process_is (unit.Request item k) key repo e = let same : k ≡ key = cc in ap (λ z. Some (process_at z repo)) same
@@ -210,15 +217,15 @@ put_nothing (Abend code) s repo h = cc
 
 -- ---- a bound of the numbers of all processes
 
-pub within_all : (g n h m : ℕ) → g ≤ h → n ≤ m → (repo : Processes) → list_all (is_within g n) repo ≡ true → list_all (is_within h m) repo ≡ true
+pub within_all : (g n h m : ℕ) → g ≤ h → n ≤ m → (ss : List Process) → list_all (is_within g n) ss ≡ true → list_all (is_within h m) ss ≡ true
 within_all g n h m j l [] w = refl
-within_all g n h m j l (s ∷ repo) w =
-    let a = and_parts (is_within g n s) (list_all (is_within g n) repo) w in and_from _ _ (within_more g n h m s a.0 j l) (within_all g n h m j l repo a.1)
+within_all g n h m j l (s ∷ ss) w =
+    let a = and_parts (is_within g n s) (list_all (is_within g n) ss) w in and_from _ _ (within_more g n h m s a.0 j l) (within_all g n h m j l ss a.1)
 
 -- ---- the processes behind it
 
 module _ (repo : Processes) (e : Ended) (key : Key) (of : key_of e.unit ≡ Some key) where
-  behind_is_of : after repo e ≡ put_back e.end (Some (finished e (process_at key repo)).now.process) repo
+  pub behind_is_of : after repo e ≡ put_back e.end (Some (finished e (process_at key repo)).now.process) repo
   behind_is_of = ap (λ o. put_back e.end (option_map (λ s. (finished e s).now.process) o) repo) (process_is e.unit key repo of)
 
   pub after_put : (s : Process) → s ≡ (finished e (process_at key repo)).now.process → is_rollback e.end ≡ false → put s repo ≡ after repo e
@@ -229,13 +236,13 @@ module _ (repo : Processes) (e : Ended) (key : Key) (of : key_of e.unit ≡ Some
 
 -- ---- how far the numbers of all processes rise
 
-module _ (g n : ℕ) (repo : Processes) (e : Ended) (w : list_all (is_within g n) repo ≡ true) where
+module _ (g n : ℕ) (repo : Processes) (e : Ended) (w : list_all (is_within g n) repo.items ≡ true) where
   -- by the definitions of such a unit, and by its calls
   abbrev pub Risen : Processes → Type 0
-  Risen t = list_all (is_within (g + definitions_by e.unit) (n + length e.calls)) t ≡ true
+  Risen t = list_all (is_within (g + definitions_by e.unit) (n + length e.calls)) t.items ≡ true
 
   pub still_within : Risen repo
-  still_within = within_all g n _ _ (omega arith) (omega arith) repo w
+  still_within = within_all g n _ _ (omega arith) (omega arith) repo.items w
 
   put_within : (end : End) (s : Process) → is_within (g + definitions_by e.unit) (n + length e.calls) s ≡ true → Risen (put_back end (Some s) repo)
   put_within Commit s h = put_all _ s repo still_within h

@@ -1,4 +1,4 @@
--- How the numbers of a unit's process rise with its calls, and that a lone root stays one.
+-- How the numbers of a unit's process rise with its calls, that a lone root stays one, and that key and format stay.
 use Rattle.std.proofs.Common.{◌≡◌, ℕ, ◌+◌, ◌<◌, ◌≤◌, true, false, List, [], ◌∷◌, length, Option, None, Some, refl, ◌∙◌, subst, arith}
 use Rattle.std.specs.List.{AllByRecursion}
 use Rattle.bts_names.specs.Answer.{left_by}
@@ -6,7 +6,8 @@ use Rattle.bts_names.specs.declared.key.Key.{Key}
 use Rattle.bts_names.specs.Names.{Name, ActivityPath}
 use Rattle.bts_command.specs.declared.command.Command.{Command}
 use Rattle.bts_command.specs.declared.ended.UnitKind.{UnitKind}
-use Rattle.bts_tree.specs.Processes.{Process}
+use Rattle.bts_container.specs.declared.format.Format.{Format}
+use Rattle.bts_tree.specs.Processes.{Process, format_of}
 use Rattle.bts_tree.specs.Soundness.{IsSoundInFrames, is_within, numbers_below}
 use Rattle.bts_rows.specs.declared.places.Held.{Held}
 use Rattle.bts_rows.specs.declared.places.Held.TheVariants as held
@@ -15,13 +16,14 @@ use Rattle.bts_rows.specs.Rows.{request_in}
 use Rattle.bts_command.specs.Given.{IsGiven}
 use Rattle.bts_rows.proofs.Acquiring.{raised_once}
 use Rattle.bts_rows.proofs.Bounds.{lone_by_cause, lone_complete, within_act, within_below, within_by_cause, within_complete, within_generation, within_more, within_request}
+use Rattle.bts_rows.proofs.FormatKept.{act_format, request_format}
 use Rattle.bts_rows.proofs.Tables.{act_at_grows, request_in_grows}
 use Rattle.bts_unit.specs.Calls.{call, run}
 use Rattle.bts_unit.specs.Ends.{abended_whole}
 use Rattle.bts_unit.specs.Frames.{OpenFrame, UnitOfWork, path_of, start}
 use Rattle.bts_unit.specs.OneFrame.{is_of_one_frame, may_begin}
 use Rattle.bts_unit.specs.Replays.{top_path}
-use Rattle.bts_unit.specs.Soundness.{IsSoundLone, IsSoundWithin, makes_more_in}
+use Rattle.bts_unit.specs.Soundness.{IsSoundIn, IsSoundLone, IsSoundWithin, makes_more_in}
 use Rattle.bts_unit.proofs.Rising.{Rises}
 use Rattle.bts_unit.proofs.Rising as rising
 
@@ -131,6 +133,41 @@ module _ (key : Key) where
     requests = λ n h now s c a sound k. (request_in_grows [] s sound h 1 now c).process.key ∙ k;
     acquires = λ n h now s c before a sound w k. k;
   }
+
+-- ---- the format
+
+module _ (f : Format) where
+  abbrev pub of_format : ℕ → Held → Process → Type 0
+  of_format n h s = format_of s ≡ f
+
+  pub format_rises : Rises of_format any
+  format_rises = record {
+    later = λ n h s k. k;
+    turns = λ n h p why s k. k;
+    completes = λ n h p status code s k. k;
+    acts = λ n h p now s c a sound k. act_format p 1 now s c ∙ k;
+    requests = λ n h now s c a sound k. request_format h 1 now s c ∙ k;
+    acquires = λ n h now s c before a sound w k. k;
+  }
+
+  pub starts_in : (kind : UnitKind) (moment : ℕ) (s : Process) → may_begin kind s ≡ true → IsSoundInFrames [] s → format_of s ≡ f → IsSoundIn f (start kind moment s)
+  starts_in = rising.starts of_format any format_rises 0
+
+  pub stays_in : (u : UnitOfWork) (c : Command) → length u.frames ≤ 1 → IsGiven c → is_of_one_frame (top_path u.frames) c ≡ true → IsSoundIn f u → IsSoundIn f (call u c).1
+  stays_in u c few given = rising.calls of_format any format_rises 0 u c few given tt
+
+  pub stops_in : (code : Name) (u : UnitOfWork) → IsSoundIn f u → IsSoundIn f (abended_whole code u)
+  stops_in = rising.stops of_format any format_rises 0
+
+any_asked : (at : Option ActivityPath) (cs : List Command) → AllByRecursion (λ c. IsGiven c × (is_of_one_frame at c ≡ true)) cs → AllByRecursion (λ c. (IsGiven c × any at c) × (is_of_one_frame at c ≡ true)) cs
+any_asked at [] h = tt
+any_asked at (c ∷ cs) h = (((h.0.0, tt), h.0.1), any_asked at cs h.1)
+
+-- behind commands of one frame it is that of the process with which the unit began
+pub run_format : (kind : UnitKind) (moment : ℕ) (s : Process) (cs : List Command) → may_begin kind s ≡ true → IsSoundInFrames [] s
+    → AllByRecursion (λ c. IsGiven c × (is_of_one_frame (path_of kind) c ≡ true)) cs → format_of (run (start kind moment s) cs).now.process ≡ format_of s
+run_format kind moment s cs may sound given =
+    (rising.runs (of_format (format_of s)) any (format_rises (format_of s)) 0 kind moment s cs may sound refl (any_asked (path_of kind) cs given)).process.1
 
 -- ---- the process that a unit leaves behind commands of one frame
 

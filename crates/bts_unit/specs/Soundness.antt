@@ -10,7 +10,8 @@ use Rattle.bts_tree.specs.declared.activity.Activity.{Activity}
 use Rattle.bts_tree.specs.Activities.{is_dormant, is_initial}
 use Rattle.bts_tree.specs.Leading.{leads_from}
 use Rattle.bts_tree.specs.Modes.{abends, finishes, waits}
-use Rattle.bts_tree.specs.Processes.{Process, activity_at}
+use Rattle.bts_container.specs.declared.format.Format.{Format}
+use Rattle.bts_tree.specs.Processes.{Process, activity_at, format_of}
 use Rattle.bts_tree.specs.Scopes.{is_empty}
 use Rattle.bts_tree.specs.Soundness.{IsSoundInFrames, is_within}
 use Rattle.bts_rows.specs.Bounds.{is_lone, makes_more, raised_by}
@@ -53,6 +54,10 @@ IsSoundWithin g n u = Holds (λ frames s. IsSoundInFrames frames s × (is_within
 -- besides, no activity stands there but the root, and it has no timer
 abbrev pub IsSoundLone : UnitOfWork → Type 0
 IsSoundLone u = Holds (λ frames s. IsSoundInFrames frames s × (is_lone s ≡ true)) u
+
+-- besides, its processes are in this format
+abbrev pub IsSoundIn : Format → UnitOfWork → Type 0
+IsSoundIn f u = Holds (λ frames s. IsSoundInFrames frames s × (format_of s ≡ f)) u
 
 -- whether a command makes a child or a timer: in a request's first frame none does
 abbrev pub makes_more_in : Option ActivityPath → Command → Bool

@@ -3,6 +3,7 @@ ghost use Rattle.std.specs.Prelude.{◌≡◌, ◌↔◌, ◌+◌, ◌≤◌, �
 ghost use Rattle.std.specs.List.{AllByRecursion, list_all};
 ghost use Rattle.bts_command.specs.Given.{IsGiven};
 ghost use Rattle.bts_command.specs.Kinds.{key_of};
+ghost use Rattle.bts_tree.specs.Processes.{format_of};
 ghost use Rattle.bts_tree.specs.Repositories.{process_at};
 ghost use Rattle.bts_tree.specs.Soundness.{AreSound, IsSoundInFrames, is_within};
 ghost use Rattle.bts_unit.specs.Frames.{path_of};
@@ -62,6 +63,7 @@ fn replay(alloc: Global, scope: Scope, ended: &Ended) -> Result<Scope, ApplyErro
     ensures after { IfOk result (λ s. s.process ≡ (playing.finished ended.now scope.process).now.process) }
     ensures key { IfOk result (λ s. s.process.key ≡ scope.process.key) }
     ensures sound { IfOk result (λ s. IsSoundInFrames [] s.process) }
+    ensures format { IfOk result (λ s. format_of s.process ≡ format_of scope.process) }
     ensures cause { IfErr result (refusals.IsOtherwise ended.now (Some scope.process)) }
 {
     let Ok(mut unit) = Unit::start(alloc, scope, ended.unit, ended.moment) else {
@@ -110,14 +112,17 @@ fn apply_to(
     requires played { refusals.is_played ended.now.unit ≡ true }
     requires enabled { playing.may_run ended.now.unit ended.now.moment repository.old.processes ≡ true }
     requires sound { AreSound repository.old.processes }
-    requires within { IsTrue (list_all (is_within (2 ^ 63) (2 ^ 63)) repository.old.processes) }
+    requires within { IsTrue
+        (list_all (is_within (2 ^ 63) (2 ^ 63)) repository.old.processes.items) }
     requires few { length ended.now.calls ≤ 500 }
     requires given { AllByRecursion (λ c. IsGiven c.command × (is_of_one_frame (path_of ended.now.unit) c.command ≡ true)) ended.now.calls }
     ensures played { OnOk result (playing.IsReplay ended.now (process_at key.now repository.old.processes)) }
     ensures after { OnOk result (repository.new.processes ≡ playing.after repository.old.processes ended.now) }
     ensures sound { OnOk result (AreSound repository.new.processes) }
-    ensures within { (g n : ℕ) → list_all (is_within g n) repository.old.processes ≡ true
-        → OnOk result (list_all (is_within (g + definitions_by ended.now.unit) (n + length ended.now.calls)) repository.new.processes ≡ true) }
+    ensures within { (g n : ℕ) → list_all (is_within g n) repository.old.processes.items ≡ true
+        → OnOk result (list_all
+        (is_within (g + definitions_by ended.now.unit) (n + length ended.now.calls))
+        repository.new.processes.items ≡ true) }
     ensures cause { IfErr result (refusals.IsOtherwise ended.now (Some (process_at key.now repository.old.processes))) }
     ensures back { OnErr result (repository.new ≡ repository.old) }
 {
@@ -146,15 +151,18 @@ fn apply_to(
 /// most, and a request alone raises a generation, by one: so a list of units can be played again one after the other.
 pub fn apply(alloc: Global, repository: &mut Repository, ended: &Ended) -> Result<(), ApplyError>
     requires sound { AreSound repository.old.processes }
-    requires within { IsTrue (list_all (is_within (2 ^ 63) (2 ^ 63)) repository.old.processes) }
+    requires within { IsTrue
+        (list_all (is_within (2 ^ 63) (2 ^ 63)) repository.old.processes.items) }
     requires played { IsTrue (refusals.is_played ended.now.unit) }
     requires few { length ended.now.calls ≤ 500 }
     requires given { AllByRecursion (λ c. IsGiven c.command × (is_of_one_frame (path_of ended.now.unit) c.command ≡ true)) ended.now.calls }
     ensures played { OnOk result (playing.Plays repository.old.processes ended.now) }
     ensures after { OnOk result (repository.new.processes ≡ playing.after repository.old.processes ended.now) }
     ensures sound { OnOk result (AreSound repository.new.processes) }
-    ensures within { (g n : ℕ) → list_all (is_within g n) repository.old.processes ≡ true
-        → OnOk result (list_all (is_within (g + definitions_by ended.now.unit) (n + length ended.now.calls)) repository.new.processes ≡ true) }
+    ensures within { (g n : ℕ) → list_all (is_within g n) repository.old.processes.items ≡ true
+        → OnOk result (list_all
+        (is_within (g + definitions_by ended.now.unit) (n + length ended.now.calls))
+        repository.new.processes.items ≡ true) }
     ensures cause { IfErr result (refusals.IsCause repository.old.processes ended.now) }
     ensures back { OnErr result (repository.new ≡ repository.old) }
 {

@@ -5,7 +5,8 @@ ghost use Rattle.bts_names.specs.Names.{ActivityPath, Name};
 ghost use Rattle.bts_names.specs.declared.key.Key.{Key};
 ghost use Rattle.bts_command.specs.Kinds.{is_committed};
 ghost use Rattle.bts_command.specs.Sizes.{got_bytes};
-ghost use Rattle.bts_container.specs.Containers.{size_limit};
+ghost use Rattle.bts_container.specs.Formats.{size_limit};
+ghost use Rattle.bts_container.specs.declared.format.Format.{Format};
 ghost use Rattle.bts_command.specs.declared.command.Command.{Command};
 ghost use Rattle.bts_command.specs.declared.ended.Ended.{Ended};
 ghost use Rattle.bts_command.specs.declared.ended.UnitKind.{UnitKind};
@@ -13,7 +14,7 @@ ghost use Rattle.bts_command.specs.declared.ended.UnitKind.TheVariants as unit;
 ghost use Rattle.bts_tree.specs.declared.activity.Activity.{Activity};
 ghost use Rattle.bts_tree.specs.Leading.{leads_from};
 ghost use Rattle.bts_tree.specs.Modes.{frame_opens};
-ghost use Rattle.bts_tree.specs.Processes.{Process, activity_at};
+ghost use Rattle.bts_tree.specs.Processes.{Process, activity_at, format_of};
 ghost use Rattle.bts_tree.specs.Repositories.{Processes};
 ghost use Rattle.bts_tree.specs.Soundness.{AreSound, IsSoundInFrames, bound_of_units, is_within, numbers_below};
 ghost use Rattle.bts_rows.specs.Bounds.{is_lone, raised_by};
@@ -26,7 +27,7 @@ ghost use Rattle.bts_unit.specs.OneFrame.{is_of_one_frame, may_begin};
 ghost use Rattle.bts_unit.specs.Playing.{Plays, after};
 ghost use Rattle.bts_unit.specs.Refusals.{is_played};
 ghost use Rattle.bts_unit.specs.Replays.{top_path};
-ghost use Rattle.bts_unit.specs.Soundness.{IsSoundLone, IsSoundUnit, IsSoundWithin, LeadsToItsEnds, makes_more_in};
+ghost use Rattle.bts_unit.specs.Soundness.{IsSoundIn, IsSoundLone, IsSoundUnit, IsSoundWithin, LeadsToItsEnds, makes_more_in};
 
 /// A unit that a sound process lets begin is sound: exactly the activity of its frame is ACTIVE.
 pub fn a_unit_starts_sound()
@@ -63,9 +64,27 @@ pub fn a_sound_unit_goes_on()
     ensures late { (u : UnitOfWork) → IsSoundUnit u → none_early u.now.process ≡ true }
 {}
 
-/// A call of a sound unit is answered with no more bytes than a container may have.
+/// A call of a sound unit is answered with no more bytes than a container may have in the format of its process.
 pub fn replies_are_short()
-    ensures { (u : UnitOfWork) (c : Command) → IsSoundUnit u → got_bytes (call u c).0.value ≤ size_limit }
+    ensures { (u : UnitOfWork) (c : Command) → IsSoundUnit u
+        → got_bytes (call u c).0.value ≤ size_limit (format_of u.now.process) }
+{}
+
+/// A unit begins in the format of its process, and so its process is behind each call, and where all frames abend,
+/// and so is what stands again when its frame abends. Behind a unit that plays all processes are sound, in the format
+/// in which they were.
+pub fn calls_keep_the_format_of_a_unit()
+    ensures starts { (f : Format) (kind : UnitKind) (moment : ℕ) (s : Process) → may_begin kind s ≡ true
+        → IsSoundInFrames [] s → format_of s ≡ f → IsSoundIn f (start kind moment s) }
+    ensures calls { (f : Format) (u : UnitOfWork) (c : Command) → length u.frames ≤ 1 → IsGiven c
+        → is_of_one_frame (top_path u.frames) c ≡ true → IsSoundIn f u → IsSoundIn f (call u c).1 }
+    ensures stops { (f : Format) (code : Name) (u : UnitOfWork) → IsSoundIn f u
+        → IsSoundIn f (abended_whole code u) }
+    ensures after { (repo : Processes) (e : Ended) → AreSound repo → Plays repo e
+        → is_played e.unit ≡ true
+        → AllByRecursion (λ c. IsGiven c.command × (is_of_one_frame (path_of e.unit) c.command ≡ true))
+        e.calls
+        → AreSound (after repo e) × ((after repo e).format ≡ repo.format) }
 {}
 
 /// The last entry numbers of a unit's process rise by one with each call at most, and stay where all frames abend. Its

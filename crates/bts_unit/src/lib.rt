@@ -30,8 +30,8 @@ pub use frame::Frame;
 pub use laws::{
     a_lone_root_stays_alone, a_sound_unit_goes_on, a_unit_keeps_the_bound_of_units,
     a_unit_starts_sound, an_abend_keeps_a_unit_sound, an_ended_unit_leaves_a_sound_process,
-    calls_keep_a_unit_sound, commands_keep_a_unit_sound, frames_lead_from_the_modes_of_their_table,
-    numbers_rise_with_the_calls, replies_are_short,
+    calls_keep_a_unit_sound, calls_keep_the_format_of_a_unit, commands_keep_a_unit_sound,
+    frames_lead_from_the_modes_of_their_table, numbers_rise_with_the_calls, replies_are_short,
 };
 pub use unit::Unit;
 

@@ -184,7 +184,7 @@ fn is_answered_by(
 ) -> bool
     requires played { IsTrue (is_played unit.now) }
     requires sound { AreSound repository.old.processes }
-    requires within { list_all (is_within (2 ^ 63) (2 ^ 63)) repository.old.processes ≡ true }
+    requires within { list_all (is_within (2 ^ 63) (2 ^ 63)) repository.old.processes.items ≡ true }
 {
     let Some(ended) = told_so(alloc, unit, told, end) else {
         return false;
@@ -240,7 +240,8 @@ fn settle_is_answered(alloc: Global, told: Told, end: End, refused: Option<u32>)
 /// What a request leaves that defines a process and runs it.
 fn started(alloc: Global, key: &Key) -> Option<Repository>
     ensures sound { IfSome result (λ r. AreSound r.processes) }
-    ensures within { IfSome result (λ r. list_all (is_within (2 ^ 63) (2 ^ 63)) r.processes ≡ true) }
+    ensures within { IfSome result
+        (λ r. list_all (is_within (2 ^ 63) (2 ^ 63)) r.processes.items ≡ true) }
 {
     let ended = told_so(alloc, &a_request(key), Told::Start, End::Commit)?;
     let mut repository = Repository::empty(alloc);

@@ -2,6 +2,7 @@
 ghost use Rattle.std.specs.Prelude.{◌≡◌, ◌<◌, ◌-◌, ◌^◌, IfSome, IsTrue, None, Some, [], not, nat_lt, is_none, true};
 ghost use Rattle.std.specs.List.{list_all};
 ghost use Rattle.bts_command.specs.declared.ended.UnitKind.TheVariants as unit;
+ghost use Rattle.bts_container.specs.declared.format.Format.TheVariants as format;
 ghost use Rattle.bts_tree.specs.Processes.{no_process};
 ghost use Rattle.bts_tree.specs.Slots.{filled};
 ghost use Rattle.bts_tree.specs.Soundness.{numbers_below};
@@ -15,6 +16,7 @@ ghost use Rattle.bts_unit.specs.Systems.{may_expire};
 use crate::{Change, Frame, Unit, system};
 use bts_act::none_is_early;
 use bts_command::{Command, Due, End, Target, UnitKind};
+use bts_container::Format;
 use bts_names::{
     Abcode, Key, Leaving, Mode, Moment, Name16, Path, ProcName, ProcType, ProgName, Reason, Resp,
     TimerStatus, Transid, Value,
@@ -46,10 +48,17 @@ fn a_key() -> Option<Key> {
 
 /// A request on a process that was never defined.
 fn a_request(alloc: Global, key: &Key, moment: Moment) -> Option<Unit>
-    ensures { IfSome result (λ u. u ≡ start (unit.Request 1 key.now) moment (no_process key.now)) }
+    ensures { IfSome result
+        (λ u. u ≡ start (unit.Request 1 key.now) moment (no_process format.One key.now)) }
 {
     let kind = UnitKind::Request { item: 1, key: *key };
-    Unit::start(alloc, Scope::undefined(alloc, *key), kind, moment).ok()
+    Unit::start(
+        alloc,
+        Scope::undefined(alloc, Format::One, *key),
+        kind,
+        moment,
+    )
+    .ok()
 }
 
 /// Whether such a request answers a command so, and ends so. One that goes on behind it is ended by an abend.

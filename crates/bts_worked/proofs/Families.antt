@@ -17,6 +17,7 @@ use Rattle.bts_event.specs.declared.event.Trigger.TheVariants.{Completion, Input
 use Rattle.bts_event.specs.declared.queue.Entry.{Entry}
 use Rattle.bts_event.specs.Events.{Events}
 use Rattle.bts_event.specs.Pool.{Pool, settled}
+use Rattle.bts_container.specs.declared.format.Format.TheVariants as format
 use Rattle.bts_tree.specs.Activities.{new_activity}
 use Rattle.bts_tree.specs.Processes.{Process, added, purged}
 use Rattle.bts_tree.specs.declared.activity.Activity.{Activity}
@@ -41,7 +42,7 @@ abbrev completion : Bool → Events
 completion fired = (a, atomic (record { trigger = Completion 1; fired = fired })) ∷ []
 
 abbrev new_child : Activity
-new_child = new_activity a (codes "T1") (codes "KID") (Some a)
+new_child = new_activity format.One a (codes "T1") (codes "KID") (Some a)
 
 -- an ACTIVE root that made one child, with these events; and the same with the child
 abbrev parent : Events → Process

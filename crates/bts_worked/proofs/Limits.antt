@@ -1,9 +1,16 @@
 -- What a session, a unit and a container may use, computed where it ends.
-use Rattle.std.proofs.Common.{◌≡◌, ℕ, true, false, List, [], ◌∷◌, Option, Some, None, codes, map, refl}
+use Rattle.std.proofs.Common.{◌≡◌, ℕ, true, false, List, [], ◌∷◌, Option, Some, None, codes, cond, length, map, nat_lt, replicate, ap, refl}
 use Rattle.bts_names.specs.Names.{Bytes, Name}
 use Rattle.bts_command.specs.declared.command.Command.TheVariants as command
 use Rattle.bts_command.specs.declared.ended.End.{End}
 use Rattle.bts_command.specs.declared.ended.End.TheVariants.{Abend}
+use Rattle.bts_container.specs.Containers.{is_long, no_containers}
+use Rattle.bts_container.specs.Formats.{size_limit}
+use Rattle.bts_container.specs.Puts.{refusal_of_put}
+use Rattle.bts_container.specs.declared.format.Format.{Format}
+use Rattle.bts_container.specs.declared.format.Format.TheVariants as format
+use Rattle.bts_container.specs.declared.put_error.PutError.{PutError}
+use Rattle.bts_container.specs.declared.put_error.PutError.TheVariants as put_error
 use Rattle.bts_interp.specs.Budgets.{end_before, on_the_way}
 use Rattle.bts_interp.specs.Steps.{Reached}
 use Rattle.bts_region.specs.Enabled.{least}
@@ -38,6 +45,32 @@ too_long : report_from (
     codes "  RETURN NORMAL" ∷ [])
 unfolding session_from history printed
 too_long = refl
+
+-- the longest one of each format, and one byte longer
+abbrev bytes_of : ℕ → Bytes
+bytes_of n = replicate n 42
+
+abbrev put_in : Format → ℕ → Option PutError
+put_in f n = refusal_of_put (codes "C") (bytes_of n) (no_containers f)
+
+longest_of_one : put_in format.One 32_768 ≡ None
+longest_of_one = refl
+
+longer_than_one : put_in format.One 32_769 ≡ Some put_error.Long
+longer_than_one = refl
+
+longer_in_two : put_in format.Two 32_769 ≡ None
+longer_in_two = refl
+
+-- so many bytes aren't computed: it is said of all that are so long
+longest_of_two : (bytes : Bytes) → length bytes ≡ 1_048_576 → is_long bytes format.Two ≡ false
+longest_of_two bytes h = ap (nat_lt (size_limit format.Two)) h
+
+longer_than_two : (bytes : Bytes) → length bytes ≡ 1_048_577 → is_long bytes format.Two ≡ true
+longer_than_two bytes h = ap (nat_lt (size_limit format.Two)) h
+
+refused_in_two : (bytes : Bytes) → length bytes ≡ 1_048_577 → refusal_of_put (codes "C") bytes (no_containers format.Two) ≡ Some put_error.Long
+refused_in_two bytes h = ap (λ b. cond b (Some put_error.Long) None) (longer_than_two bytes h)
 
 -- ---- statements and calls
 

@@ -5,6 +5,8 @@ use Rattle.bts_names.specs.declared.state.Mode.{Mode}
 use Rattle.bts_names.specs.declared.state.Mode.TheVariants as mode
 use Rattle.bts_names.specs.declared.state.Status.{Status}
 use Rattle.bts_names.specs.declared.state.Status.TheVariants as status
+use Rattle.bts_container.specs.Containers.{no_containers}
+use Rattle.bts_container.specs.declared.format.Format.TheVariants as format
 use Rattle.bts_tree.specs.Activities.{new_activity, new_root, by_cause}
 use Rattle.bts_tree.specs.Modes.{Cause, frame_opens, waits, finishes, abends, is_forced, is_reset}
 use Rattle.bts_tree.specs.Processes.{Process, no_process, activities, planted, added, removed, complete, part, join, child_of}
@@ -14,10 +16,10 @@ abbrev pub name : Name
 name = codes "A"
 
 abbrev pub of_key : Name → Process
-of_key n = planted (new_root name name) (no_process (record { ptype = name; pname = n }))
+of_key n = planted (new_root format.One name name) (no_process format.One (record { ptype = name; pname = n }))
 
 abbrev child : Name → Activity
-child n = new_activity n name name (Some (codes "E"))
+child n = new_activity format.One n name name (Some (codes "E"))
 
 -- a root with the children /1 and /2, and /1/1 below the first
 abbrev pub family : Process
@@ -46,7 +48,7 @@ abbrev life : Activity → List Cause → List (Mode × Status)
 life a [] = []
 life a (why ∷ rest) = let b : Activity = by_cause why None a in (b.mode, b.status) ∷ life b rest
 
-waits_and_finishes : life (new_root name name) (frame_opens ∷ waits ∷ frame_opens ∷ finishes ∷ is_reset ∷ [])
+waits_and_finishes : life (new_root format.One name name) (frame_opens ∷ waits ∷ frame_opens ∷ finishes ∷ is_reset ∷ [])
     ≡ (mode.Active, status.Incomplete) ∷ (mode.Dormant, status.Incomplete) ∷ (mode.Active, status.Incomplete) ∷ (mode.Complete, status.Normal) ∷ (mode.Initial, status.Incomplete) ∷ []
 waits_and_finishes = refl
 
@@ -74,7 +76,7 @@ below_goes = refl
 all_of_it_goes : paths (removed (1 ∷ []) true family) ≡ [] ∷ (2 ∷ []) ∷ []
 all_of_it_goes = refl
 
-with_the_root_all_goes : removed [] true family ≡ record { key = record { ptype = name; pname = codes "P" }; generation = 1; tree = None; containers = [] }
+with_the_root_all_goes : removed [] true family ≡ record { key = record { ptype = name; pname = codes "P" }; generation = 1; tree = None; containers = no_containers format.One }
 with_the_root_all_goes = refl
 
 -- ---- parts

@@ -1,12 +1,14 @@
 -- Soundness: a small process that is sound, and others that aren't, each for one reason.
-use Rattle.std.proofs.Common.{◌≡◌, ◌≤◌, ◌+◌, ℕ, Bool, true, false, List, [], ◌∷◌, Option, Some, None, cond, codes, refl, ap, ◌∙◌, arith}
+use Rattle.std.proofs.Common.{◌≡◌, ◌≤◌, ◌+◌, ℕ, Bool, true, false, List, [], ◌∷◌, Option, Some, None, cond, codes, map, refl, ap, ◌∙◌, arith}
 use Rattle.std.specs.List.{IsDistinct}
 use Rattle.std.specs.List.Sorted.{IsStrictlySortedBy}
 use Rattle.bts_names.specs.Names.{Name, same, initial_name}
 use Rattle.bts_names.specs.declared.state.Mode.TheVariants as mode
 use Rattle.bts_names.specs.declared.state.Status.TheVariants as status
 use Rattle.bts_names.specs.declared.state.TimerStatus.TheVariants as timer
-use Rattle.bts_container.specs.Containers.{Containers, IsPool}
+use Rattle.bts_container.specs.Containers.{Containers, IsPool, no_containers, raised}
+use Rattle.bts_container.specs.declared.format.Format.{Format}
+use Rattle.bts_container.specs.declared.format.Format.TheVariants as format
 use Rattle.bts_event.specs.Composites.{Composite}
 use Rattle.bts_event.specs.declared.event.Event.{Event}
 use Rattle.bts_event.specs.declared.event.Event.TheVariants.{Atomic as atomic, Composite as composite}
@@ -18,8 +20,9 @@ use Rattle.bts_event.specs.Pool.{Pool, empty_pool}
 use Rattle.bts_event.specs.Sound.{IsSoundPool, EntriesFit, one_if}
 use Rattle.bts_event.proofs.Same.{same_sym}
 use Rattle.bts_tree.specs.Activities.{Activities, new_activity, new_root}
-use Rattle.bts_tree.specs.Processes.{Process, with_containers}
-use Rattle.bts_tree.specs.Soundness.{IsSoundActivity, IsSoundInFrames, IsSoundTree}
+use Rattle.bts_tree.specs.Processes.{Process, format_of, with_containers}
+use Rattle.bts_tree.specs.Repositories.{Processes, raised_all}
+use Rattle.bts_tree.specs.Soundness.{AreSound, IsSoundActivity, IsSoundInFrames, IsSoundTree}
 use Rattle.bts_tree.specs.declared.activity.Activity.{Activity}
 use Rattle.bts_worked.proofs.Tables.{new, undefined, with_root, active}
 
@@ -41,7 +44,7 @@ abbrev both_events : Events
 both_events = (a, an_event (Completion 1) false) ∷ (t1, an_event (Timer t1) false) ∷ []
 
 abbrev waiting_root : Activity
-waiting_root = record (new_root (codes "ORD1") (codes "ROOT")) {
+waiting_root = record (new_root format.One (codes "ORD1") (codes "ROOT")) {
   mode = mode.Dormant;
   made = 1;
   timers = (t1, record { due = 60; status = timer.Unexpired }) ∷ [];
@@ -49,13 +52,16 @@ waiting_root = record (new_root (codes "ORD1") (codes "ROOT")) {
 }
 
 abbrev new_child : Activity
-new_child = new_activity a (codes "T1") (codes "KID") (Some a)
+new_child = new_activity format.One a (codes "T1") (codes "KID") (Some a)
 
 abbrev family : Activities
 family = ([], waiting_root) ∷ (1 ∷ [], new_child) ∷ []
 
+abbrev one_container : Containers
+one_container = record { format = format.One; items = (codes "C", codes "x") ∷ [] }
+
 abbrev waits : Process
-waits = record new { tree = Some family; containers = (codes "C", codes "x") ∷ [] }
+waits = record new { tree = Some family; containers = one_container }
 
 -- what stands under a name, by whether it is the first event's and whether it is the second's
 abbrev found : Bool → Bool → Option Event
@@ -96,9 +102,9 @@ first_of_all = record {
   numbers = (omega arith, omega arith);
 }
 
-no_containers : IsPool []
+its_containers : IsPool (no_containers format.One)
 unfolding IsDistinct
-no_containers = record { few = omega arith; short = tt; distinct = tt }
+its_containers = record { few = omega arith; short = tt; distinct = tt }
 
 its_root : IsSoundActivity waiting_root
 unfolding IsStrictlySortedBy
@@ -108,7 +114,7 @@ its_root = record {
   pool = its_pool;
   timers_rise = (tt, tt);
   timer_events = record { one_event_each = refl; timer_of_each = refl; unexpired = refl };
-  containers = no_containers;
+  containers = its_containers;
   few_children = omega arith;
 }
 
@@ -120,7 +126,7 @@ its_child = record {
   pool = empty;
   timers_rise = tt;
   timer_events = record { one_event_each = refl; timer_of_each = refl; unexpired = refl };
-  containers = no_containers;
+  containers = its_containers;
   few_children = omega arith;
 }
 
@@ -142,6 +148,7 @@ unfolding IsDistinct
 sound = record {
   tree = (its_tree, omega arith);
   containers = record { few = omega arith; short = (refl, tt); distinct = (tt, tt) };
+  formats = (refl, (refl, tt));
   active = refl;
 }
 
@@ -165,11 +172,8 @@ frame_without_an_active : IsSoundInFrames ([] ∷ []) new → ⊥
 frame_without_an_active s = let e : false ≡ true = s.active in cc
 
 -- containers though there is no tree, and a tree though the key was never defined
-abbrev one_container : Containers
-one_container = (codes "C", codes "x") ∷ []
-
 containers_without_a_tree : IsSoundInFrames [] (with_containers one_container undefined) → ⊥
-containers_without_a_tree s = let e : one_container ≡ [] = s.tree in cc
+containers_without_a_tree s = let e : one_container.items ≡ [] = s.tree in cc
 
 never_defined : IsSoundInFrames [] (record new { generation = 0 }) → ⊥
 never_defined s = let e : 1 ≤ 0 = s.tree.1 in omega arith
@@ -216,3 +220,33 @@ root_untold s = let e : false ≡ true = s.tree.0.parents.0.told in cc
 
 no_root : IsSoundInFrames [] (record new { tree = Some ((1 ∷ [], new_child) ∷ []) }) → ⊥
 no_root s = let e : false ≡ true = s.tree.0.root in cc
+
+-- ---- formats
+
+-- an activity in another format than its process
+abbrev raised_activity : Activity → Activity
+raised_activity x = record x { containers = raised x.containers }
+
+of_another_format : IsSoundInFrames [] (with_family same_as_it_was raised_activity) → ⊥
+of_another_format s = let e : format.Two ≡ format.One = s.formats.1.0 in cc
+
+-- a process in another format than its repository
+abbrev in_format : Format → Process → Processes
+in_format f s = record { format = f; items = s ∷ [] }
+
+all_in_one_format : AreSound (in_format format.One waits)
+unfolding IsStrictlySortedBy
+all_in_one_format = record { keys_rise = (tt, tt); defined = refl; formats = (refl, tt); each = (sound, tt) }
+
+process_of_another_format : AreSound (in_format format.Two waits) → ⊥
+process_of_another_format s = let e : format.One ≡ format.Two = s.formats.0 in cc
+
+-- raised to the second format it is sound there
+raised_is_in_two : (raised_all (in_format format.One waits)).format ≡ format.Two
+raised_is_in_two = refl
+
+formats_of_raised : map format_of (raised_all (in_format format.One waits)).items ≡ format.Two ∷ []
+formats_of_raised = refl
+
+back_in_one : AreSound (record { format = format.One; items = (raised_all (in_format format.One waits)).items }) → ⊥
+back_in_one s = let e : format.Two ≡ format.One = s.formats.0 in cc

@@ -14,6 +14,7 @@ use Rattle.bts_names.specs.declared.state.Mode.TheVariants as mode
 use Rattle.bts_command.specs.declared.command.Command.{Command}
 use Rattle.bts_command.specs.declared.command.Command.TheVariants as command
 use Rattle.bts_event.specs.Pool.{entered}
+use Rattle.bts_container.specs.declared.format.Format.TheVariants as format
 use Rattle.bts_tree.specs.Activities.{new_root}
 use Rattle.bts_tree.specs.Processes.{Process, edited, no_process, planted}
 use Rattle.bts_tree.specs.declared.activity.Activity.{Activity}
@@ -74,14 +75,14 @@ abbrev pub root : Here
 root = stands.Activity []
 
 abbrev pub undefined : Process
-undefined = no_process (record { ptype = codes "ORDERS"; pname = codes "P1" })
+undefined = no_process format.One (record { ptype = codes "ORDERS"; pname = codes "P1" })
 
 abbrev pub define_process : Command
 define_process = command.DefineProcess (codes "ORD1") (codes "ROOT")
 
 -- a process that was just defined
 abbrev pub new : Process
-new = planted (new_root (codes "ORD1") (codes "ROOT")) undefined
+new = planted (new_root format.One (codes "ORD1") (codes "ROOT")) undefined
 
 -- the root is changed
 abbrev pub with_root : (Activity → Activity) → Process → Process

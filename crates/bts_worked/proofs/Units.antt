@@ -25,8 +25,11 @@ use Rattle.bts_event.specs.declared.event.Trigger.TheVariants.{Input, Timer}
 use Rattle.bts_event.specs.Pool.{fired, settled}
 use Rattle.bts_tree.specs.declared.activity.Activity.{Activity}
 use Rattle.bts_tree.specs.declared.mark.Mark.{Mark}
+use Rattle.bts_container.specs.Containers.{no_containers}
+use Rattle.bts_container.specs.declared.format.Format.TheVariants as format
 use Rattle.bts_tree.specs.Activities.{new_activity}
 use Rattle.bts_tree.specs.Processes.{Process, added, complete, edited}
+use Rattle.bts_tree.specs.Repositories.{Processes}
 use Rattle.bts_rows.specs.RequestRows.{request_row}
 use Rattle.bts_rows.specs.Rows.{answer, thing_row}
 use Rattle.bts_rows.specs.OnActivity.{on_activity}
@@ -232,7 +235,7 @@ in_its_own_frame : Gives (request undefined) (
     ∷ [])
     record {
       end = Some Commit;
-      process = record { key = undefined.key; generation = 1; tree = None; containers = [] };
+      process = record { key = undefined.key; generation = 1; tree = None; containers = no_containers format.One };
       entered = ([], 1) ∷ [];
       retrieved = ([], 1) ∷ [];
       dropped = [];
@@ -241,7 +244,7 @@ unfolding calls.run called_in moved retrieving answer thing_row request_row on_a
 in_its_own_frame = refl
 
 abbrev child : Activity
-child = new_activity (codes "C") (codes "CHL1") (codes "LEAF") (Some (codes "C"))
+child = new_activity format.One (codes "C") (codes "CHL1") (codes "LEAF") (Some (codes "C"))
 
 abbrev with_a_child : Process → Process
 with_a_child s = added (1 ∷ []) child (with_root (with_child (codes "C") 1) s)
@@ -274,7 +277,7 @@ run_gives_back = refl
 
 abbrev grandchild : Process → Process
 grandchild s =
-    added (1 ∷ 1 ∷ []) (new_activity (codes "D") (codes "CHL1") (codes "LEAF") (Some (codes "D"))) (edited (1 ∷ []) (with_child (codes "D") 1) s)
+    added (1 ∷ 1 ∷ []) (new_activity format.One (codes "D") (codes "CHL1") (codes "LEAF") (Some (codes "D"))) (edited (1 ∷ []) (with_child (codes "D") 1) s)
 
 link_gives_nothing_back : Gives (activation (with_a_child run)) (call_and_abend (command.Link (target.Activity (codes "C")) None))
     record {
@@ -348,6 +351,9 @@ timed_out = refl
 
 -- ---- units that processes give
 
+abbrev these : List Process → Processes
+these ss = record { format = format.One; items = ss }
+
 abbrev call_of : Line → Call
 call_of (c answers r) = record { command = c; reply = r }
 
@@ -365,36 +371,36 @@ defining e =
 abbrev first_activation : Ended
 first_activation = ended_unit (unit.Activation undefined.key []) Commit (retrieves_initial ∷ leaves leaving.Complete ∷ [])
 
-a_request_plays : Plays [] (defining Commit)
+a_request_plays : Plays (these []) (defining Commit)
 unfolding calls.run called_in moved retrieving answer thing_row request_row on_activity on_containers on_shown on_family settled
 a_request_plays = record { enabled = refl; given = record { calls = refl; end = refl } }
 
-its_process_stands : after [] (defining Commit) ≡ run ∷ []
+its_process_stands : after (these []) (defining Commit) ≡ these (run ∷ [])
 unfolding calls.run called_in moved retrieving answer thing_row request_row on_activity on_containers on_shown on_family settled
 its_process_stands = refl
 
-its_activation_plays : Plays (run ∷ []) first_activation
+its_activation_plays : Plays (these (run ∷ [])) first_activation
 unfolding calls.run called_in moved retrieving answer thing_row request_row on_activity on_containers on_shown on_family settled
 its_activation_plays = record { enabled = refl; given = record { calls = refl; end = refl } }
 
-nothing_is_put_back : after (run ∷ []) (ended_unit (unit.Request 2 undefined.key) Rollback (
+nothing_is_put_back : after (these (run ∷ [])) (ended_unit (unit.Request 2 undefined.key) Rollback (
     (command.AcquireProcess answers ok)
     ∷ (command.Cancel target.AcqProcess answers ok)
     ∷ (command.Rollback answers ok)
-    ∷ [])) ≡ run ∷ []
+    ∷ [])) ≡ these (run ∷ [])
 unfolding calls.run called_in moved retrieving answer thing_row request_row on_activity on_containers on_shown on_family settled
 nothing_is_put_back = refl
 
 -- an activity that has nothing to do isn't activated
-not_enabled : may_run (unit.Activation undefined.key []) 0 (new ∷ []) ≡ false
+not_enabled : may_run (unit.Activation undefined.key []) 0 (these (new ∷ [])) ≡ false
 not_enabled = refl
 
 -- a limit ends a unit that has no calls; and an item without a process has none
-limit_plays : Plays (run ∷ []) (ended_unit (unit.Activation undefined.key []) (Abend (codes "SIZE")) [])
+limit_plays : Plays (these (run ∷ [])) (ended_unit (unit.Activation undefined.key []) (Abend (codes "SIZE")) [])
 unfolding calls.run called_in moved retrieving answer thing_row request_row on_activity on_containers on_shown on_family settled
 limit_plays = record { enabled = refl; given = record { calls = refl; end = refl } }
 
-settle_plays : Plays [] (ended_unit (unit.Settle 2) Commit [])
+settle_plays : Plays (these []) (ended_unit (unit.Settle 2) Commit [])
 settle_plays = record { enabled = refl; given = record { calls = refl; end = refl } }
 
 -- the end of a unit is that of its calls, and no call stands behind it
@@ -408,10 +414,10 @@ call_behind_the_end r = let e : map call_of (returns ∷ []) ≡ map call_of (re
 
 -- ---- why a unit isn't applied
 
-unready_activation : IsCause (new ∷ []) (ended_unit (unit.Activation undefined.key []) Commit []) (error.NotLegal 0)
+unready_activation : IsCause (these (new ∷ [])) (ended_unit (unit.Activation undefined.key []) Commit []) (error.NotLegal 0)
 unready_activation = inl (record { disabled = refl; uncounted = refl })
 
-end_alone_is_other : IsCause [] (defining Rollback) (error.NotLegal 0)
+end_alone_is_other : IsCause (these []) (defining Rollback) (error.NotLegal 0)
 unfolding calls.run called_in moved retrieving answer thing_row request_row on_activity on_containers on_shown on_family settled
 end_alone_is_other = inr (record { enabled = refl; other = inr (record { calls = refl; end = λ e. cc; uncounted = refl }) })
 
@@ -419,13 +425,13 @@ abbrev first_resp : Option Call → Resp
 first_resp None = resp.End
 first_resp (Some c) = c.reply.resp
 
-first_reply_is_other : IsCause [] (ended_unit (unit.Request 1 undefined.key) Commit ((command.Return false answers refusal resp.Invreq reason.Place) ∷ [])) (error.NotLegal 1)
+first_reply_is_other : IsCause (these []) (ended_unit (unit.Request 1 undefined.key) Commit ((command.Return false answers refusal resp.Invreq reason.Place) ∷ [])) (error.NotLegal 1)
 unfolding calls.run called_in moved retrieving answer thing_row request_row on_activity on_containers on_shown on_family settled
 first_reply_is_other = inr (record { enabled = refl; other = inl (record { same_before = refl; is_told = omega arith; other = λ e. let r : resp.Normal ≡ resp.Invreq = ap first_resp e in cc }) })
 
-second_call_is_behind_the_end : IsCause [] (ended_unit (unit.Request 1 undefined.key) Commit (returns ∷ returns ∷ [])) (error.NotLegal 2)
+second_call_is_behind_the_end : IsCause (these []) (ended_unit (unit.Request 1 undefined.key) Commit (returns ∷ returns ∷ [])) (error.NotLegal 2)
 unfolding calls.run called_in moved retrieving answer thing_row request_row on_activity on_containers on_shown on_family settled
 second_call_is_behind_the_end = inr (record { enabled = refl; other = inl (record { same_before = refl; is_told = omega arith; other = λ e. cc }) })
 
-call_of_a_settle : IsCause [] (ended_unit (unit.Settle 2) Commit (returns ∷ [])) (error.NotLegal 1)
+call_of_a_settle : IsCause (these []) (ended_unit (unit.Settle 2) Commit (returns ∷ [])) (error.NotLegal 1)
 call_of_a_settle = inr (record { enabled = refl; other = inl (record { same_before = refl; is_told = omega arith; other = λ e. cc }) })

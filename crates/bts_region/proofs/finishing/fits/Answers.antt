@@ -4,7 +4,7 @@ use Rattle.bts_interp.specs.Jobs as jobs
 use Rattle.bts_names.proofs.Sameness.{keys_same_where_equal}
 use Rattle.bts_region.proofs.Sameness.{fits_not, fits_so, not_not}
 use Rattle.bts_tree.specs.Processes.{Process}
-use Rattle.bts_tree.specs.Repositories.{Processes, process_at}
+use Rattle.bts_tree.specs.Repositories.{process_at}
 use Rattle.bts_region.proofs.finishing.fits.Goals as goal
 
 pub returns-then-ne-2 : goal.returns-then-ne-2
@@ -22,5 +22,4 @@ returns g c =
     (sym c.moment.ensures ∙ eqb-true c.moment.result c.args.due.now.moment (not_not (sym c.ne.ensures ∙ c.if-ne.false)))
     (sym c.unit.ensures ∙ c.is_same.ensures.0 c.if-not-is_same.false)
     (sym key ∙ (keys_same_where_equal c.key.result c.args.due.now.key).0 (not_not (sym c.ne-2.ensures ∙ c.if-ne-2.false)))
-    (subst (λ (s : Process). IsTrue c.same.result ↔ (process_at s.key c.args.repository.now.processes ≡ s)) base
-    (subst (λ (repo : Processes). IsTrue c.same.result ↔ (process_at c.base-base.result.now.process.key repo ≡ c.base-base.result.now.process)) c.all.ensures c.same.ensures))
+    (subst (λ (s : Process). IsTrue c.same.result ↔ (process_at s.key c.args.repository.now.processes ≡ s)) base c.same.ensures)

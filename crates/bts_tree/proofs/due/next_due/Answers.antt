@@ -1,4 +1,5 @@
 use Rattle.std.proofs.Common.{rules, ◌≡◌, ◌∷◌, ◌∙◌, ap}
+use Rattle.std.specs.List.{flat_map}
 use Rattle.std.specs.Prelude.{Some, None}
 use Rattle.bts_tree.proofs.Finds.{first_part, next_part}
 use Rattle.bts_tree.proofs.Slots.{due_front}
@@ -14,8 +15,8 @@ returns-in-Some-due_in_slot c =
     let mine = repo.due_among c.args.now key (keeping.activities_in slot) in
     let more : c.loop-key.key-iterator ≡ (key, slot) ∷ c.next.new.self = search rules in
     let f : Some c.in-Some-due_in_slot.place ≡ repo.first_behind repo.timer_place_cmp c.args.after.now mine = search rules in
-    first_part (repo.is_behind repo.timer_place_cmp c.args.after.now) _ (repo.due_in c.args.now (keeping.processes_of c.loop-key.key-iterator)) mine (repo.due_in c.args.now rest) c.in-Some-due_in_slot.place
-    c.loop-key.invariant.2 (ap (λ s. repo.due_in c.args.now (keeping.processes_of s)) more ∙ due_front c.args.now key slot rest) f
+    first_part (repo.is_behind repo.timer_place_cmp c.args.after.now) _ (flat_map (repo.due_of c.args.now) (keeping.processes_of c.loop-key.key-iterator)) mine (flat_map (repo.due_of c.args.now) rest) c.in-Some-due_in_slot.place
+    c.loop-key.invariant.2 (ap (λ s. flat_map (repo.due_of c.args.now) (keeping.processes_of s)) more ∙ due_front c.args.now key slot rest) f
 
 pub loop-key-preserved : goal.loop-key-preserved
 loop-key-preserved c =
@@ -27,6 +28,6 @@ loop-key-preserved c =
     let f : None ≡ repo.first_behind repo.timer_place_cmp c.args.after.now mine = search rules in (
       tt,
       tt,
-      next_part (repo.is_behind repo.timer_place_cmp c.args.after.now) _ (repo.due_in c.args.now (keeping.processes_of c.loop-key.key-iterator)) mine (repo.due_in c.args.now rest)
-          c.loop-key.invariant.2 (ap (λ s. repo.due_in c.args.now (keeping.processes_of s)) more ∙ due_front c.args.now key slot rest) f,
+      next_part (repo.is_behind repo.timer_place_cmp c.args.after.now) _ (flat_map (repo.due_of c.args.now) (keeping.processes_of c.loop-key.key-iterator)) mine (flat_map (repo.due_of c.args.now) rest)
+          c.loop-key.invariant.2 (ap (λ s. flat_map (repo.due_of c.args.now) (keeping.processes_of s)) more ∙ due_front c.args.now key slot rest) f,
     )

@@ -1,4 +1,5 @@
 use Rattle.std.proofs.Common.{◌≡◌}
+use Rattle.std.specs.List.{flat_map}
 use Rattle.bts_tree.specs.Keeping as keeping
 use Rattle.bts_tree.specs.Repositories as repo
 use Rattle.bts_tree.proofs.due.next_due.Given as goal
@@ -8,5 +9,5 @@ abbrev pub invariant-loop-key : goal.invariant-loop-key
 invariant-loop-key l =
     (goal.iterator-loop-key).can_next l.key-iterator ×
     (goal.iterator-loop-key).is_finite l.key-iterator ×
-    (repo.first_behind repo.timer_place_cmp l.after (repo.due_in l.now (keeping.processes_of l.map.entries))
-    ≡ repo.first_behind repo.timer_place_cmp l.after (repo.due_in l.now (keeping.processes_of l.key-iterator)))
+    (repo.first_behind repo.timer_place_cmp l.after (flat_map (repo.due_of l.now) (keeping.processes_of l.map.entries))
+    ≡ repo.first_behind repo.timer_place_cmp l.after (flat_map (repo.due_of l.now) (keeping.processes_of l.key-iterator)))

@@ -1,4 +1,4 @@
-use Rattle.std.proofs.Common.{rules, ◌≡◌, ◌<◌, ◌≤◌, ◌+◌, ◌^◌, arith, ap, length}
+use Rattle.std.proofs.Common.{rules, ◌≡◌, ◌<◌, ◌≤◌, ◌^◌, arith, ap, length}
 use Rattle.bts_tree.proofs.Slotted.{filled_shorter}
 use Rattle.bts_tree.proofs.slot_maps.count_filled.Goals as goal
 use Rattle.bts_tree.specs.Slots.{filled}

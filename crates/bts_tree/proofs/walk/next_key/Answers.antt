@@ -15,8 +15,8 @@ returns-in-Some-key_behind c =
     let mine = keeping.keys_in key slot in
     let more : c.loop-key.key-iterator ≡ (key, slot) ∷ c.next.new.self = search rules in
     let f : Some c.in-Some-key_behind.found ≡ repo.first_behind key_cmp c.args.after.now mine = search rules in
-    first_part (repo.is_behind key_cmp c.args.after.now) _ (repo.keys_of_processes (keeping.processes_of c.loop-key.key-iterator)) mine (repo.keys_of_processes rest) c.in-Some-key_behind.found
-    c.loop-key.invariant.2 (ap (λ s. repo.keys_of_processes (keeping.processes_of s)) more ∙ keys_front key slot rest) f
+    first_part (repo.is_behind key_cmp c.args.after.now) _ (keeping.keys_of_all c.loop-key.key-iterator) mine (keeping.keys_of_all c.next.new.self) c.in-Some-key_behind.found
+    c.loop-key.invariant.2 (ap keeping.keys_of_all more ∙ keys_front key slot rest) f
 
 pub loop-key-preserved : goal.loop-key-preserved
 loop-key-preserved c =
@@ -28,6 +28,6 @@ loop-key-preserved c =
     let f : None ≡ repo.first_behind key_cmp c.args.after.now mine = search rules in (
       tt,
       tt,
-      next_part (repo.is_behind key_cmp c.args.after.now) _ (repo.keys_of_processes (keeping.processes_of c.loop-key.key-iterator)) mine (repo.keys_of_processes rest)
-          c.loop-key.invariant.2 (ap (λ s. repo.keys_of_processes (keeping.processes_of s)) more ∙ keys_front key slot rest) f,
+      next_part (repo.is_behind key_cmp c.args.after.now) _ (keeping.keys_of_all c.loop-key.key-iterator) mine (keeping.keys_of_all c.next.new.self)
+          c.loop-key.invariant.2 (ap keeping.keys_of_all more ∙ keys_front key slot rest) f,
     )

@@ -9,5 +9,5 @@ abbrev pub invariant-loop-key : goal.invariant-loop-key
 invariant-loop-key l =
     (goal.iterator-loop-key).can_next l.key-iterator ×
     (goal.iterator-loop-key).is_finite l.key-iterator ×
-    (repo.first_behind key_cmp l.after (repo.keys_of_processes (keeping.processes_of l.map.entries))
-    ≡ repo.first_behind key_cmp l.after (repo.keys_of_processes (keeping.processes_of l.key-iterator)))
+    (repo.first_behind key_cmp l.after (keeping.keys_of_all l.map.entries)
+    ≡ repo.first_behind key_cmp l.after (keeping.keys_of_all l.key-iterator))

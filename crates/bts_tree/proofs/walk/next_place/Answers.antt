@@ -1,4 +1,5 @@
 use Rattle.std.proofs.Common.{rules, ◌≡◌, ◌∷◌, ◌∙◌, ap}
+use Rattle.std.specs.List.{flat_map}
 use Rattle.std.specs.Prelude.{Some, None}
 use Rattle.bts_tree.proofs.Finds.{first_part, next_part}
 use Rattle.bts_tree.proofs.Slots.{chosen_front}
@@ -15,8 +16,8 @@ returns-in-Some-next_in_slot c =
     let mine = repo.chosen_at test key (keeping.activities_in slot) in
     let more : c.loop-key.key-iterator ≡ (key, slot) ∷ c.next.new.self = search rules in
     let f : Some (key, c.in-Some-next_in_slot.path) ≡ repo.first_behind repo.place_cmp c.args.after.now mine = search rules in
-    first_part (repo.is_behind repo.place_cmp c.args.after.now) _ (repo.chosen test (keeping.processes_of c.loop-key.key-iterator)) mine (repo.chosen test rest) (key, c.in-Some-next_in_slot.path)
-    c.loop-key.invariant.2 (ap (λ s. repo.chosen test (keeping.processes_of s)) more ∙ chosen_front test key slot rest) f
+    first_part (repo.is_behind repo.place_cmp c.args.after.now) _ (flat_map (repo.chosen_of test) (keeping.processes_of c.loop-key.key-iterator)) mine (flat_map (repo.chosen_of test) rest) (key, c.in-Some-next_in_slot.path)
+    c.loop-key.invariant.2 (ap (λ s. flat_map (repo.chosen_of test) (keeping.processes_of s)) more ∙ chosen_front test key slot rest) f
 
 pub loop-key-preserved : goal.loop-key-preserved
 loop-key-preserved c =
@@ -29,6 +30,6 @@ loop-key-preserved c =
     let f : None ≡ repo.first_behind repo.place_cmp c.args.after.now mine = search rules in (
       tt,
       tt,
-      next_part (repo.is_behind repo.place_cmp c.args.after.now) _ (repo.chosen test (keeping.processes_of c.loop-key.key-iterator)) mine (repo.chosen test rest)
-          c.loop-key.invariant.2 (ap (λ s. repo.chosen test (keeping.processes_of s)) more ∙ chosen_front test key slot rest) f,
+      next_part (repo.is_behind repo.place_cmp c.args.after.now) _ (flat_map (repo.chosen_of test) (keeping.processes_of c.loop-key.key-iterator)) mine (flat_map (repo.chosen_of test) rest)
+          c.loop-key.invariant.2 (ap (λ s. flat_map (repo.chosen_of test) (keeping.processes_of s)) more ∙ chosen_front test key slot rest) f,
     )

@@ -1,5 +1,6 @@
 use Rattle.std.proofs.Common.{◌≡◌, ◌^◌, true, [], sym, ap, ◌∙◌, subst}
-use Rattle.bts_rows.proofs.Repositories.{put_sound, sound_at, within_at}
+use Rattle.bts_rows.proofs.Repositories.{format_at, put_sound, sound_at, within_at}
+use Rattle.bts_tree.specs.Processes.{format_of}
 use Rattle.bts_tree.specs.Repositories.{has_room, put}
 use Rattle.bts_tree.specs.Soundness.{AreSound, IsSoundInFrames, is_within}
 use Rattle.bts_unit.specs.OneFrame.{may_begin}
@@ -28,7 +29,10 @@ stand_then : (c : goal.After-put_scope) → c.put_scope.new.self.processes ≡ p
 stand_then c = ap (λ r. r.processes) c.put_scope.ensures ∙ ap (λ r. put c.in_ok-after.after.process r.processes) c.in-Ok-reserve_for.ensures.ok
 
 pub returns-clause-sound : goal.returns-clause-sound
-returns-clause-sound c = subst AreSound (sym (stand_then c)) (put_sound c.in_ok-after.after.process c.args.repository.now.processes c.requires.sound c.in_ok-after.ensures.sound)
+returns-clause-sound c =
+    let repo = c.args.repository.now.processes in
+    let format = c.in_ok-after.ensures.format ∙ ap (λ h. format_of h.process) c.in-Ok.ensures ∙ format_at c.args.key.now repo c.requires.sound in
+    subst AreSound (sym (stand_then c)) (put_sound c.in_ok-after.after.process repo c.requires.sound format c.in_ok-after.ensures.sound)
 
 pub returns-clause-after : goal.returns-clause-after
 returns-clause-after c =

@@ -1,13 +1,14 @@
 use Rattle.std.proofs.Common.{◌≡◌, ◌^◌, ℕ, List, [], Option, Some, None, MatchOption, refl, sym, ap, ◌∙◌, subst}
 use Rattle.bts_command.specs.declared.command.Call.{Call}
 use Rattle.bts_command.specs.declared.ended.Ended.{Ended}
+use Rattle.bts_tree.specs.Processes.{format_of}
 use Rattle.bts_tree.specs.Soundness.{IsSoundInFrames}
 use Rattle.bts_unit.specs.Calls.{commands_of, made, unit_behind}
 use Rattle.bts_unit.specs.Frames.{UnitOfWork}
 use Rattle.bts_unit.specs.Playing.{budgeted}
 use Rattle.bts_unit.specs.Refusals.{IsOtherCall}
 use Rattle.bts_unit.specs.Replays.{CanRepeat}
-use Rattle.bts_unit.proofs.Applied.{can_replay, ended_otherwise, leaves, left_key, other_call, replays, stays_sound, still_open}
+use Rattle.bts_unit.proofs.Applied.{can_replay, ended_otherwise, leaves, left_format, left_key, other_call, replays, stays_sound, still_open}
 use Rattle.bts_unit.proofs.applying.replay.Goals as goal
 
 pub first_other-requires : goal.first_other-requires
@@ -76,6 +77,11 @@ pub returns-clause-key : goal.returns-clause-key
 returns-clause-key c =
     ap (λ s. s.key) (returns-clause-after c)
     ∙ left_key c.args.ended.now c.args.scope.process c.requires.begins c.requires.sound c.requires.given (returns-clause-played c)
+
+pub returns-clause-format : goal.returns-clause-format
+returns-clause-format c =
+    ap format_of (returns-clause-after c)
+    ∙ left_format c.args.ended.now c.args.scope.process c.requires.begins c.requires.sound c.requires.given (returns-clause-played c)
 
 pub returns-clause-sound : goal.returns-clause-sound
 returns-clause-sound c =

@@ -15,4 +15,4 @@ pub returns-in-Ok-clause-within : goal.returns-in-Ok-clause-within
 returns-in-Ok-clause-within c =
     let few : length c.in_ok-ended.ended.calls ≤ 3 = c.in_ok-ended.ensures.few in
     let once = once_at_most c.in_ok-ended.ended.unit in
-    within_all (0 + definitions_by c.in_ok-ended.ended.unit) (0 + length c.in_ok-ended.ended.calls) (2 ^ 63) (2 ^ 63) (omega (arith, once)) (omega (arith, few)) c.apply.new.repository.processes (c.in-Ok.ensures.within 0 0 (ap (λ (r : Stored). list_all (is_within 0 0) r.processes) c.empty-repository.ensures))
+    within_all (0 + definitions_by c.in_ok-ended.ended.unit) (0 + length c.in_ok-ended.ended.calls) (2 ^ 63) (2 ^ 63) (omega (arith, once)) (omega (arith, few)) c.apply.new.repository.processes.items (c.in-Ok.ensures.within 0 0 (ap (λ (r : Stored). list_all (is_within 0 0) r.processes.items) c.empty-repository.ensures))

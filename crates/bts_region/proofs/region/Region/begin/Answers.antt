@@ -1,5 +1,4 @@
 use Rattle.std.proofs.Common.{[], refl, sym, ap, ◌∙◌, subst}
-use Rattle.bts_index.specs.Indexes.{is_awake}
 use Rattle.bts_interp.specs.Names.{Named}
 use Rattle.bts_region.specs.Positions.{opened_at}
 use Rattle.bts_region.specs.Today.{IsOfToday, IsSmall, MayOpen}
@@ -15,8 +14,8 @@ invariant_of-result g c =
       moment = sym (ap (λ (n : Named). n.opening.moment) c.requires.name);
       history = c.new-2.ensures.items;
       out = refl;
-      processes = c.in_ok-repository.ensures.processes ∙ sym (ap (λ (n : Named). n.opening.repo.processes) c.requires.name);
-      awake = λ key h. ap (is_awake key) c.in_ok-repository.ensures.processes ∙ sym (c.in_ok-repository.ensures.keys key) ∙ h;
+      processes = c.forget_all_idle.ensures.processes ∙ sym (ap (λ (n : Named). n.opening.repo.processes) c.requires.name);
+      awake = λ key h. sym (c.forget_all_idle.ensures.keys key) ∙ h;
       units = sym (ap (λ (n : Named). n.opening.units) c.requires.name);
       items = refl;
       activations = refl;

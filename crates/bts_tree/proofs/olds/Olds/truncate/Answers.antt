@@ -1,4 +1,4 @@
-use Rattle.std.proofs.Common.{rules, ◌≡◌, ◌≤◌, ◌<◌, ◌∙◌, length, sym}
+use Rattle.std.proofs.Common.{rules, ◌≤◌, ◌<◌, ◌∙◌, length, sym}
 use Rattle.std.proofs.lemmas.List.{take_all}
 use Rattle.bts_tree.proofs.Newest.{popped_front, popped_shorter}
 use Rattle.bts_tree.proofs.olds.Olds.truncate.Goals as goal

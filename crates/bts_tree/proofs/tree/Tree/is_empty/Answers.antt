@@ -1,4 +1,4 @@
-use Rattle.std.proofs.Common.{rules, ◌≡◌, ◌↔◌, IsTrue, length}
+use Rattle.std.proofs.Common.{◌≡◌, ◌↔◌, IsTrue, length}
 use Rattle.bts_tree.proofs.Slotted.{empty_tree}
 use Rattle.bts_tree.proofs.tree.Tree.is_empty.Goals as goal
 

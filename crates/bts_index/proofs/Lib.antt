@@ -1,5 +1,0 @@
-mod Found
-mod Index
-pub mod Keys
-mod Merged
-mod Made
