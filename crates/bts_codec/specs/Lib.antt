@@ -1,3 +1,4 @@
+-- What the contracts of public functions mean.
 pub mod Formats
 pub mod Laws
 pub mod Fields

@@ -1,3 +1,4 @@
+-- What the contracts of public functions mean.
 pub mod Calls
 pub mod Composites
 pub mod Events

@@ -1,3 +1,4 @@
+-- What the contracts of public functions mean.
 pub mod Arguments
 pub mod Forms
 pub mod Pieces

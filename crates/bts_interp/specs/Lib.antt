@@ -1,7 +1,6 @@
+-- What the contracts of public functions mean.
 pub mod Facts
-pub mod Commands
 pub mod Steps
-pub mod Reaching
 pub mod Texts
 pub mod Items
 pub mod NextCalls
@@ -9,8 +8,12 @@ pub mod Budgets
 pub mod Talks
 pub mod Jobs
 pub mod Names
-pub mod Errands
 pub mod Ready
-pub mod Running
 pub mod Stations
 pub mod Short
+
+-- For proofs and inner contracts alone.
+pub mod Commands
+pub mod Reaching
+pub mod Errands
+pub mod Running

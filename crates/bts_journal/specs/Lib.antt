@@ -1,3 +1,4 @@
+-- What the contracts of public functions mean.
 pub mod Gates
 pub mod Journals
 pub mod Crashes

@@ -1,7 +1,10 @@
+-- What the contracts of public functions mean.
 pub mod Answer
 pub mod Grammar
 pub mod Keys
-pub mod Named
 pub mod Names
-pub mod Padded
 pub mod Vocabulary
+
+-- For proofs and inner contracts alone.
+pub mod Named
+pub mod Padded

@@ -1,3 +1,4 @@
+-- What the contracts of public functions mean.
 pub mod Items
 pub mod Positions
 pub mod Owed
@@ -7,9 +8,11 @@ pub mod Serial
 pub mod Regions
 pub mod Today
 pub mod Answers
+pub mod AsStation
+
+-- For proofs and inner contracts alone.
 pub mod Offered
 pub mod Fitting
 pub mod Awake
 pub mod Keeps
-pub mod AsStation
 pub mod Widens

@@ -1,1 +1,2 @@
+-- What the contracts of public functions mean.
 pub mod Behind

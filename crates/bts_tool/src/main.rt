@@ -2,12 +2,8 @@
 #![tactic(auto)]
 
 mod cause;
-#[cfg(test)]
-mod jumps;
 mod process;
 mod session;
-#[cfg(test)]
-mod stories;
 mod streams;
 mod tail;
 #[cfg(test)]

@@ -1,11 +1,8 @@
+-- What the contracts of public functions mean.
 pub mod Activities
-pub mod Fields
 pub mod Indexes
-pub mod Keeping
 pub mod Lending
 pub mod Modes
-pub mod Newest
-pub mod Olds
 pub mod Leading
 pub mod Paths
 pub mod Processes
@@ -13,3 +10,9 @@ pub mod Repositories
 pub mod Scopes
 pub mod Slots
 pub mod Soundness
+
+-- For proofs and inner contracts alone.
+pub mod Fields
+pub mod Keeping
+pub mod Newest
+pub mod Olds

@@ -1,3 +1,4 @@
+-- What the contracts of public functions mean.
 pub mod Marks
 pub mod Standings
 pub mod Frames
@@ -6,7 +7,9 @@ pub mod Calls
 pub mod Systems
 pub mod Playing
 pub mod OneFrame
-pub mod OnWork
 pub mod Replays
 pub mod Soundness
 pub mod Refusals
+
+-- For proofs and inner contracts alone.
+pub mod OnWork
