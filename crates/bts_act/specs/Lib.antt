@@ -3,6 +3,5 @@ pub mod Does
 pub mod Early
 pub mod Replies
 pub mod Built
-
 -- For proofs and inner contracts alone.
 pub mod Children

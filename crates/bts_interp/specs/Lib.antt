@@ -11,7 +11,6 @@ pub mod Names
 pub mod Ready
 pub mod Stations
 pub mod Short
-
 -- For proofs and inner contracts alone.
 pub mod Commands
 pub mod Reaching

@@ -4,7 +4,6 @@ pub mod Grammar
 pub mod Keys
 pub mod Names
 pub mod Vocabulary
-
 -- For proofs and inner contracts alone.
 pub mod Named
 pub mod Padded

@@ -9,7 +9,6 @@ pub mod Regions
 pub mod Today
 pub mod Answers
 pub mod AsStation
-
 -- For proofs and inner contracts alone.
 pub mod Offered
 pub mod Fitting

@@ -64,7 +64,14 @@ fn has_bad_line(alloc: Global, text: &str, line: u32, reason: Word) -> bool {
 
 #[test]
 fn a_bad_block_is_refused(rt: HostRuntime) -> Result<(), Fail> {
-    assert!(rt; has_bad_line(rt.alloc(), "RETURN\nHELLO\nLABEL L\nLABEL L", 11, Word::Word));
+    assert!(rt;
+        has_bad_line(
+            rt.alloc(),
+            "RETURN\nHELLO\nLABEL L\nLABEL L",
+            11,
+            Word::Word
+        )
+    );
     assert!(rt; has_bad_line(rt.alloc(), "LABEL L\nLABEL L\nGOTO X", 11, Word::Twice));
     Ok(())
 }

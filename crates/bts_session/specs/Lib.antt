@@ -2,6 +2,5 @@
 pub mod Sessions
 pub mod Today
 pub mod Sizes
-
 -- For proofs and inner contracts alone.
 pub mod Reading

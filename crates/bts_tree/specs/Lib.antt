@@ -10,7 +10,6 @@ pub mod Repositories
 pub mod Scopes
 pub mod Slots
 pub mod Soundness
-
 -- For proofs and inner contracts alone.
 pub mod Fields
 pub mod Keeping

@@ -10,6 +10,5 @@ pub mod OneFrame
 pub mod Replays
 pub mod Soundness
 pub mod Refusals
-
 -- For proofs and inner contracts alone.
 pub mod OnWork
